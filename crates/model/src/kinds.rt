@@ -1,0 +1,62 @@
+// The values that a scene is made of, and the requests that processes make.
+use crate::signals::Fault;
+
+// An object's name: the share that it was made in, and its number there.
+#[derive(Clone, Copy)]
+pub struct Name {
+    pub share: u32,
+    pub number: u32,
+}
+
+#[derive(Clone, Copy)]
+pub struct Cap {
+    pub name: Name,
+    pub rights: u32,
+}
+
+// What a template says: its own rights code, the type wanted (0 for any), the
+// rights that an argument must have, and those that it gets.
+#[derive(Clone, Copy)]
+pub struct Form {
+    pub rights: u32,
+    pub wanted: u32,
+    pub check: u32,
+    pub new: u32,
+}
+
+#[derive(Clone, Copy)]
+pub enum Slot {
+    Empty,
+    Capability(Cap),
+    Template(Form),
+}
+
+pub const EMPTY: Slot = Slot::Empty;
+
+// A name space, and the slot of the caller's that a returned capability goes to.
+#[derive(Clone, Copy)]
+pub struct Space {
+    pub slots: [Slot; 12],
+    pub back: u32,
+}
+
+// Whose slots: the process's current name space, or the list of an object.
+#[derive(Clone, Copy)]
+pub enum Holder {
+    Mine,
+    Listed(Name),
+}
+
+#[derive(Drop)]
+pub enum Kall {
+    Lenth,
+}
+
+// What a process asks for, with its own buffer; the answer comes with the serving.
+#[derive(Drop)]
+pub struct Request<E> {
+    pub process: u32,
+    pub kall: Kall,
+    pub buffer: Vec<E>,
+    pub answer: Option<Result<i32, Fault>>,
+}
