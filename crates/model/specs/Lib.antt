@@ -1,2 +1,6 @@
 pub mod Signals
 pub mod Model
+pub mod Plan
+pub mod Kalls
+pub mod SetUp
+pub mod Isolation

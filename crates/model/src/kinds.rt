@@ -47,6 +47,20 @@ pub enum Holder {
     Listed(Name),
 }
 
+// Whose slot set-up fills: a process's or a house object's, by its number.
+#[derive(Clone, Copy)]
+pub enum Owner {
+    Process(u32),
+    Object(u32),
+}
+
+// How many slots an object's list may have, and how many elements its data part.
+#[derive(Clone, Copy)]
+pub struct Limits {
+    pub slots: usize,
+    pub elements: usize,
+}
+
 #[derive(Drop)]
 pub enum Kall {
     Lenth,

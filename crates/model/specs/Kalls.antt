@@ -1,0 +1,161 @@
+-- How edits change the scene, the kalls, and runs of requests.
+use mathlib.Core.List.{List, [], _∷_}
+use mathlib.Core.Bool.{Bool, cond, _&&_}
+use Prim.Native.Nat.{ℕ, _+_, _-_}
+use lib.Dec.{eqb, ltb}
+use lib.IntN.{ℤ, pos}
+use lib.ListN.{set, replicate}
+use Rattle.std.specs.declared.option.Option.{Option}
+use Rattle.std.specs.declared.option.Option.the-variants.{Some, None}
+use Rattle.std.specs.declared.result.Result.{Result}
+use Rattle.std.specs.declared.result.Result.the-variants.{Ok, Err}
+use Rattle.model.specs.declared.kinds.Name.{Name}
+use Rattle.model.specs.declared.kinds.Slot.{Slot}
+use Rattle.model.specs.declared.kinds.Slot.the-variants.{Empty}
+use Rattle.model.specs.declared.kinds.Space.{Space}
+use Rattle.model.specs.declared.kinds.Holder.{Holder}
+use Rattle.model.specs.declared.kinds.Holder.the-variants.{Mine, Listed}
+use Rattle.model.specs.declared.kinds.Kall.{Kall}
+use Rattle.model.specs.declared.kinds.Kall.the-variants.{Lenth}
+use Rattle.model.specs.declared.signals.Fault.{Fault}
+use Rattle.model.specs.Model.{Body, Task, Frame, World, Rule}
+use Rattle.model.specs.Plan.{Plan, after, _>>=_, _>>_, runs, length-of}
+
+abbrev pub same-name : Name → Name → Bool
+same-name n m = eqb (n .share) (m .share) && eqb (n .number) (m .number)
+
+unfoldable pub on-object : Name → (Option Body → Option Body) → Frame → Frame
+on-object n g f =
+    record { object = λ m. cond (same-name m n) (g (f .object m)) (f .object m); living = f .living; given = f .given; process = f .process }
+
+unfoldable pub on-process : ℕ → (Option Task → Option Task) → Frame → Frame
+on-process p g f =
+    record { object = f .object; living = f .living; given = f .given; process = λ q. cond (eqb q p) (g (f .process q)) (f .process q) }
+
+unfoldable pub on-living : ℕ → (ℕ → ℕ) → Frame → Frame
+on-living s g f =
+    record { object = f .object; living = λ t. cond (eqb t s) (g (f .living t)) (f .living t); given = f .given; process = f .process }
+
+unfoldable pub on-given : ℕ → (ℕ → ℕ) → Frame → Frame
+on-given s g f =
+    record { object = f .object; living = f .living; given = λ t. cond (eqb t s) (g (f .given t)) (f .given t); process = f .process }
+
+abbrev pub lifted : {A : Type 0} → (A → A) → Option A → Option A
+lifted g None = None
+lifted g (Some a) = Some (g a)
+
+-- slots by an index from 0
+abbrev pub put-top : ℕ → Slot → List Space → List Space
+put-top i s [] = []
+put-top i s (sp ∷ l) = cond (ltb i 12) (record { slots = set (sp .slots) i s; back = sp .back } ∷ l) (sp ∷ l)
+
+abbrev pub respaced : (List Space → List Space) → Task → Task
+respaced g t = record { running = t .running; spaces = g (t .spaces) }
+
+abbrev pub relisted : (List Slot → List Slot) → Body → Body
+relisted g o = record { kind = o .kind; list = g (o .list) }
+
+unfoldable pub put-own : ℕ → ℕ → Slot → Frame → Frame
+put-own p i s f = on-process p (lifted (respaced (put-top i s))) f
+
+unfoldable pub put-listed : Name → ℕ → Slot → Frame → Frame
+put-listed n i s f = on-object n (lifted (relisted (λ l. set l i s))) f
+
+abbrev pub put-in : ℕ → Holder → ℕ → Slot → Frame → Frame
+put-in p Mine i s f = put-own p i s f
+put-in p (Listed n) i s f = put-listed n i s f
+
+abbrev pub fresh : ℕ → Option Body
+fresh kind = Some (record { kind = kind; list = replicate 8 Empty })
+
+-- the name of the share's next object
+abbrev pub next : ℕ → Frame → Name
+next s f = record { share = s; number = f .given s + 1 }
+
+abbrev pub made : ℕ → ℕ → Frame → Frame
+made s kind f = on-living s (λ k. k + 1) (on-given s (λ k. k + 1) (on-object (next s f) (λ o. fresh kind) f))
+
+unfoldable pub refilled : {E : Type 0} → Name → List E → (Name → List E) → Name → List E
+refilled n xs h = λ m. cond (same-name m n) xs (h m)
+
+-- what is done to a scene, p being the caller: a slot is put at an index from 1, an object of p's share is made with its elements
+pub data Edit (E : Type 0) : Type 0 where
+  put : Holder → ℕ → Slot → Edit E
+  make : ℕ → List E → Edit E
+
+abbrev pub apply : {E : Type 0} → ℕ → Edit E → World E → World E
+apply p (put h i s) w = record { frame = put-in p h (i - 1) s (w .frame); elements = w .elements }
+apply p (make kind xs) w = record { frame = made p kind (w .frame); elements = refilled (next p (w .frame)) xs (w .elements) }
+
+abbrev pub apply-all : {E : Type 0} → ℕ → List (Edit E) → World E → World E
+apply-all p [] w = w
+apply-all p (e ∷ es) w = apply-all p es (apply p e w)
+
+-- what a kall comes to: its value, the buffer where it changes, and the edits to be made
+pub record Outcome (E : Type 0) : Type 0 where
+  pub value : ℤ
+  pub buffer : Option (List E)
+  pub edits : List (Edit E)
+
+module _ {E : Type 0} (p : ℕ) where
+  -- a kall that leaves the buffer alone
+  abbrev pub done : ℤ → List (Edit E) → Plan Frame (Outcome E)
+  done v es = λ _. Ok (record { value = v; buffer = None; edits = es })
+
+  -- the kalls
+  abbrev pub kall-lenth : Plan Frame (Outcome E)
+  kall-lenth = do
+    runs p
+    n ← length-of p
+    done (pos n) []
+
+abbrev pub plan : {E : Type 0} → Rule → ℕ → Kall → List E → Plan (World E) (Outcome E)
+plan rule p Lenth xs w = kall-lenth p (w .frame)
+
+-- how a kall ends: a fault changes neither scene nor buffer
+abbrev pub answer-of : {E : Type 0} → Result (Outcome E) Fault → Result ℤ Fault
+answer-of (Ok o) = Ok (o .value)
+answer-of (Err e) = Err e
+
+abbrev pub given-back : {E : Type 0} → List E → Option (List E) → List E
+given-back xs None = xs
+given-back xs (Some ys) = ys
+
+abbrev pub buffer-of : {E : Type 0} → List E → Result (Outcome E) Fault → List E
+buffer-of xs (Ok o) = given-back xs (o .buffer)
+buffer-of xs (Err e) = xs
+
+abbrev pub world-of : {E : Type 0} → ℕ → World E → Result (Outcome E) Fault → World E
+world-of p w (Ok o) = apply-all p (o .edits) w
+world-of p w (Err e) = w
+
+pub record Reply (E : Type 0) : Type 0 where
+  pub answer : Result ℤ Fault
+  pub buffer : List E
+  pub after : World E
+
+abbrev pub replied : {E : Type 0} → ℕ → List E → World E → Result (Outcome E) Fault → Reply E
+replied p xs w x = record { answer = answer-of x; buffer = buffer-of xs x; after = world-of p w x }
+
+-- a request, and what became of it
+pub record Asked (E : Type 0) : Type 0 where
+  pub caller : ℕ
+  pub kall : Kall
+  pub buffer : List E
+
+pub record Event (E : Type 0) : Type 0 where
+  pub caller : ℕ
+  pub kall : Kall
+  pub answer : Result ℤ Fault
+  pub buffer : List E
+  pub world : World E
+
+abbrev pub serve : {E : Type 0} → Rule → Asked E → World E → Event E
+serve rule r w =
+    let x = plan rule (r .caller) (r .kall) (r .buffer) w in
+    record { caller = r .caller; kall = r .kall; answer = answer-of x; buffer = buffer-of (r .buffer) x; world = world-of (r .caller) w x }
+
+-- each request's event, in order
+unfoldable pub run : {E : Type 0} → Rule → List (Asked E) → World E → List (Event E)
+run rule [] w = []
+run rule (r ∷ rs) w = let e = serve rule r w in e ∷ run rule rs (e .world)

@@ -1,0 +1,135 @@
+-- A kall is planned before anything changes: a plan reads the scene, and answers a fault or what is to be done.
+use mathlib.Core.List.{List, [], _∷_}
+use mathlib.Core.Bool.{Bool, true, false, cond, _&&_, _||_}
+use Prim.Native.Nat.{ℕ, zero, suc, _+_, _-_}
+use lib.Dec.{eqb, leb, ltb}
+use lib.ListN.{getD}
+use Rattle.std.specs.declared.option.Option.{Option}
+use Rattle.std.specs.declared.option.Option.the-variants.{Some, None}
+use Rattle.std.specs.declared.result.Result.{Result}
+use Rattle.std.specs.declared.result.Result.the-variants.{Ok, Err}
+use Rattle.model.specs.declared.kinds.Name.{Name}
+use Rattle.model.specs.declared.kinds.Slot.{Slot}
+use Rattle.model.specs.declared.kinds.Slot.the-variants.{Empty, Capability, Template}
+use Rattle.model.specs.declared.kinds.Space.{Space}
+use Rattle.model.specs.declared.kinds.Limits.{Limits}
+use Rattle.model.specs.declared.kinds.Holder.{Holder}
+use Rattle.model.specs.declared.kinds.Holder.the-variants.{Mine, Listed}
+use Rattle.model.specs.declared.signals.Fault.{Fault}
+use Rattle.model.specs.declared.signals.Signal.the-variants.{Sproc, Sstop, Sindex, Sgone, Stype, Sfull, Sroom, Snames, Smask}
+use Rattle.model.specs.Signals.{fault}
+use Rattle.model.specs.Model.{Body, Task, Frame, Rule}
+
+infixl 20 _>>=_ _>>_
+
+abbrev pub Plan : Type 0 → Type 0 → Type 0
+Plan W A = W → Result A Fault
+
+abbrev pub after : {A B : Type 0} → Result A Fault → (A → Result B Fault) → Result B Fault
+after (Ok a) k = k a
+after (Err e) k = Err e
+
+abbrev pub _>>=_ : {W A B : Type 0} → Plan W A → (A → Plan W B) → Plan W B
+_>>=_ m k = λ w. after (m w) (λ a. k a w)
+
+abbrev pub _>>_ : {W A B : Type 0} → Plan W A → Plan W B → Plan W B
+_>>_ m k = λ w. after (m w) (λ a. k w)
+
+-- the caller is enrolled and not stopped
+abbrev pub task-runs : Option Task → Result ℕ Fault
+task-runs None = Err (fault Sproc 0)
+task-runs (Some t) = cond (t .running) (Ok 0) (Err (fault Sstop 0))
+
+unfoldable pub runs : ℕ → Plan Frame ℕ
+runs p f = task-runs (f .process p)
+
+-- what an object's type allows it: 1 DATA has no list, 3 PROCEDURE no data part, 2 UNIVERSAL and user types have both
+unfoldable pub limits : ℕ → Result Limits Fault
+limits kind =
+    cond (eqb kind 1) (Ok (record { slots = 0; elements = 64 }))
+    (cond (eqb kind 3) (Ok (record { slots = 8; elements = 0 }))
+    (cond (eqb kind 2 || (leb 16 kind && leb kind 255)) (Ok (record { slots = 8; elements = 64 }))
+    (Err (fault Stype 0))))
+
+abbrev pub slots-in : Result Limits Fault → ℕ
+slots-in (Ok l) = l .slots
+slots-in (Err e) = 0
+
+-- the slots of a list
+abbrev pub room : ℕ → ℕ
+room kind = slots-in (limits kind)
+
+abbrev pub spaces-of : Option Task → List Space
+spaces-of None = []
+spaces-of (Some t) = t .spaces
+
+-- a slot of the current name space or of a list, by an index from 0; `at` is the detail of a refusal
+abbrev pub top-slot : ℕ → ℕ → List Space → Result Slot Fault
+top-slot i at [] = Err (fault Sindex at)
+top-slot i at (s ∷ ss) = cond (ltb i 12) (Ok (getD (s .slots) i Empty)) (Err (fault Sindex at))
+
+abbrev pub body-slot : ℕ → ℕ → Option Body → Result Slot Fault
+body-slot i at None = Err (fault Sgone at)
+body-slot i at (Some b) = cond (ltb i (room (b .kind))) (Ok (getD (b .list) i Empty)) (Err (fault Sindex at))
+
+abbrev pub own-slot : Frame → ℕ → ℕ → ℕ → Result Slot Fault
+own-slot f p i at = top-slot i at (spaces-of (f .process p))
+
+abbrev pub slot-of : Frame → Name → ℕ → ℕ → Result Slot Fault
+slot-of f n i at = body-slot i at (f .object n)
+
+abbrev pub slot-in : Frame → ℕ → Holder → ℕ → ℕ → Result Slot Fault
+slot-in f p Mine i at = own-slot f p i at
+slot-in f p (Listed n) i at = slot-of f n i at
+
+-- and by its index from 1
+abbrev pub slot-at : Frame → ℕ → Holder → ℕ → ℕ → Result Slot Fault
+slot-at f p h i at = cond (eqb i 0) (Err (fault Sindex at)) (slot-in f p h (i - 1) at)
+
+-- an empty slot
+abbrev pub unfilled : ℕ → Slot → Result ℕ Fault
+unfilled at Empty = Ok 0
+unfilled at (Capability c) = Err (fault Sfull at)
+unfilled at (Template t) = Err (fault Sfull at)
+
+unfoldable pub vacant : ℕ → Holder → ℕ → ℕ → Plan Frame ℕ
+vacant p h i at f = after (slot-at f p h i at) (unfilled at)
+
+abbrev pub present : Option Body → Bool
+present None = false
+present (Some b) = true
+
+abbrev pub lives : Frame → Name → Bool
+lives f n = present (f .object n)
+
+-- the index of the last filled slot, or 0
+abbrev pub longer : Slot → ℕ → ℕ
+longer Empty zero = 0
+longer (Capability c) zero = 1
+longer (Template t) zero = 1
+longer s (suc n) = suc (suc n)
+
+unfoldable pub last-filled : List Slot → ℕ
+last-filled [] = 0
+last-filled (s ∷ l) = longer s (last-filled l)
+
+abbrev pub top-slots : List Space → List Slot
+top-slots [] = []
+top-slots (s ∷ ss) = s .slots
+
+-- the length of the current name space
+unfoldable pub length-of : ℕ → Plan Frame ℕ
+length-of p f = Ok (last-filled (top-slots (spaces-of (f .process p))))
+
+-- how many objects of a share may live
+abbrev pub places : ℕ → ℕ
+places s = cond (eqb s 0) 32 (cond (ltb s 9) 16 0)
+
+-- the number that a new object of the share s gets
+unfoldable pub new-number : ℕ → Plan Frame ℕ
+new-number s f =
+    cond (leb (places s) (f .living s)) (Err (fault Sroom 0))
+    (cond (leb 60000 (f .given s)) (Err (fault Snames 0)) (Ok (f .given s + 1)))
+
+abbrev pub code-ok : Rule → ℕ → Result ℕ Fault
+code-ok rule c = cond (rule .valid c) (Ok 0) (Err (fault Smask 0))
