@@ -1,0 +1,4 @@
+pub mod kinds;
+pub mod limits;
+pub mod tables;
+pub mod objects;
