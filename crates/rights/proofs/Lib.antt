@@ -1,1 +1,2 @@
+mod BitLaws
 mod StepLaws
