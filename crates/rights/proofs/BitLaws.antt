@@ -5,12 +5,17 @@ use Prim.Native.Nat.{ℕ, zero, suc, _≤_, _<_, _/_, _%_, _^_}
 use native.Mathlib.Nat.{div-eq-of-lt}
 use native.Mathlib.Omega.{arith}
 use lib.Bits.{bitAnd, bitOr, and-shr, or-shr, and-step, or-step, and-le-l, or-lt}
-use lib.Dec.{leb, ltb, eqb, eqb·suc-zero}
+use lib.Dec.{leb, eqb, eqb·suc-zero}
 use lib.Pow.{pow-lt}
 use Rattle.std.proofs.shelf.Ways.{tells, decides-below-and}
-use Rattle.std.proofs.shelf.Tests.{ltb-true, lt-ltb, le-leb, cond-true, cond-false, cond-both, and-parts, and-right}
-use Rattle.model.specs.Model.{Laws, Invalid-as-zero}
-use Rattle.rights.specs.Bits.{bits, as-bits, bit}
+use Rattle.std.proofs.shelf.Tests.{ltb-true, lt-ltb, le-leb, and-parts, and-right}
+use Rattle.model.specs.Model.{Laws}
+use Rattle.rights.specs.Bits.{bits, valid-bits, bit}
+use Rattle.rights.specs.Codes.{reading}
+use Rattle.rights.proofs.Reading.{itself, stays-valid}
+
+abbrev as-bits : ℕ → ℕ
+as-bits c = reading valid-bits c
 
 lowest-and : (a b : ℕ) → eqb (bitAnd a b % 2) 1 ≡ (eqb (a % 2) 1 && eqb (b % 2) 1)
 lowest-and a b = let e = and-step a b in grind (arith, tells)
@@ -30,16 +35,13 @@ bit-one (suc k) =
     ap (λ (x : ℕ). eqb (x % 2) 1) (div-eq-of-lt (pow-lt {i = 0} {j = suc k} (omega arith))) ∙ sym (eqb·suc-zero k)
 
 within : (c : ℕ) → as-bits c < 2097152
-within c = cond-both (ltb c 2097152) c 0 (λ x. x < 2097152) (ltb-true c 2097152) (λ e. omega arith)
+within c = ltb-true _ 2097152 (stays-valid valid-bits refl c)
 
-masked : (c y : ℕ) → bitAnd (as-bits c) y < 2097152
-masked c y = omega (arith, within c, and-le-l (as-bits c) y)
+masked : (c y : ℕ) → bits .valid (bitAnd (as-bits c) y) ≡ true
+masked c y = lt-ltb _ 2097152 (omega (arith, within c, and-le-l (as-bits c) y))
 
-marked : (c : ℕ) → bitOr (as-bits c) 1 < 2097152
-marked c = or-lt 21 (as-bits c) 1 (within c) (omega arith)
-
-itself : (c : ℕ) → c < 2097152 → as-bits c ≡ c
-itself c h = cond-true (ltb c 2097152) c 0 (lt-ltb c 2097152 h)
+marked : (c : ℕ) → bits .valid (bitOr (as-bits c) 1) ≡ true
+marked c = lt-ltb _ 2097152 (or-lt 21 (as-bits c) 1 (within c) (omega arith))
 
 regroup : (g x y : Bool) → (g && (x && y)) ≡ ((g && x) && y)
 regroup true x y = refl
@@ -56,12 +58,12 @@ alone false e = e
 -- a masked code grants what both grant
 both : (k c y : ℕ) → (leb k 20 && bit (as-bits (bitAnd (as-bits c) y)) k) ≡ ((leb k 20 && bit (as-bits c) k) && bit y k)
 both k c y =
-    ap (λ (x : ℕ). leb k 20 && bit x k) (itself _ (masked c y)) ∙ ap (λ (x : Bool). leb k 20 && x) (bit-and (as-bits c) y k)
+    ap (λ (x : ℕ). leb k 20 && bit x k) (itself valid-bits _ (masked c y)) ∙ ap (λ (x : Bool). leb k 20 && x) (bit-and (as-bits c) y k)
     ∙ regroup (leb k 20) (bit (as-bits c) k) (bit y k)
 
 deletes : (k c : ℕ) → k ≤ 20 → (leb k 20 && bit (as-bits (bitOr (as-bits c) 1)) k) ≡ ((leb k 20 && bit (as-bits c) k) || eqb k 0)
 deletes k c h =
-    ap₂ (λ (g : Bool) (x : ℕ). g && bit x k) (le-leb k 20 h) (itself _ (marked c)) ∙ bit-or (as-bits c) 1 k
+    ap₂ (λ (g : Bool) (x : ℕ). g && bit x k) (le-leb k 20 h) (itself valid-bits _ (marked c)) ∙ bit-or (as-bits c) 1 k
     ∙ ap₂ (λ (g x : Bool). (g && bit (as-bits c) k) || x) (sym (le-leb k 20 h)) (bit-one k)
 
 guarded : (k a : ℕ) → (k ≡ 1) ⊎ ((k ≡ 9) ⊎ (k ≡ 10)) → bit (bitOr a 2095613) k ≡ true → (leb k 20 && bit a k) ≡ true
@@ -94,22 +96,9 @@ lawful =
       admit-given = λ a n k h e. guarded k (as-bits a) h (and-parts _ _ (sym (both k n (bitOr (as-bits a) 2095613)) ∙ e) .1);
       full-grants = full-from;
       zero-valid = refl;
-      restrict-valid = λ r m. lt-ltb _ 2097152 (masked r (as-bits m));
-      strip-valid = λ r. lt-ltb _ 2097152 (masked r 2095615);
-      add-delete-valid = λ r. lt-ltb _ 2097152 (marked r);
-      admit-valid = λ a n. lt-ltb _ 2097152 (masked n (bitOr (as-bits a) 2095613));
+      restrict-valid = λ r m. masked r (as-bits m);
+      strip-valid = λ r. masked r 2095615;
+      add-delete-valid = marked;
+      admit-valid = λ a n. masked n (bitOr (as-bits a) 2095613);
       full-valid = refl;
-    }
-
-pub invalid : Invalid-as-zero bits
-invalid c e =
-    let z : as-bits c ≡ 0 = cond-false (ltb c 2097152) c 0 e in
-    record {
-      grants = λ k. ap (λ (x : ℕ). leb k 20 && bit x k) z;
-      restrict = λ m. ap (λ (x : ℕ). bitAnd x (as-bits m)) z;
-      restrict-by = λ r. ap (λ (x : ℕ). bitAnd (as-bits r) x) z;
-      strip = ap (λ (x : ℕ). bitAnd x 2095615) z;
-      add-delete = ap (λ (x : ℕ). bitOr x 1) z;
-      admit = λ n. ap (λ (x : ℕ). bitAnd (as-bits n) (bitOr x 2095613)) z;
-      admit-as = λ a. ap (λ (x : ℕ). bitAnd x (bitOr (as-bits a) 2095613)) z;
     }

@@ -1,2 +1,4 @@
 mod BitLaws
+mod Placing
+mod Reading
 mod StepLaws

@@ -5,18 +5,23 @@ use Prim.Native.Nat.{ℕ, _≤_, min, max}
 use native.Mathlib.Omega.{arith}
 use lib.Dec.{leb, eqb}
 use Rattle.std.proofs.shelf.Ways.{tells}
-use Rattle.std.proofs.shelf.Tests.{leb-true, le-leb, cond-true, cond-false, cond-both, and-parts, and-right}
-use Rattle.model.specs.Model.{Laws, Invalid-as-zero}
-use Rattle.rights.specs.Steps.{steps, as-step, first-step}
+use Rattle.std.proofs.shelf.Tests.{ltb-true, lt-ltb, and-parts, and-right}
+use Rattle.model.specs.Model.{Laws}
+use Rattle.rights.specs.Steps.{steps, valid-steps, first-step}
+use Rattle.rights.specs.Codes.{reading}
+use Rattle.rights.proofs.Reading.{itself, stays-valid}
 
-at-most-three : (c : ℕ) → as-step c ≤ 3
-at-most-three c = cond-both (leb c 3) c 0 (λ x. x ≤ 3) (leb-true c 3) (λ e. omega arith)
+abbrev as-step : ℕ → ℕ
+as-step c = reading valid-steps c
 
-smaller : (c y : ℕ) → min (as-step c) y ≤ 3
-smaller c y = let h = at-most-three c in omega arith
+valid : (c : ℕ) → steps .valid (as-step c) ≡ true
+valid c = stays-valid valid-steps refl c
 
-step-of : (f c : ℕ) → c ≤ 3 → leb f (as-step c) ≡ leb f c
-step-of f c h = ap (leb f) (cond-true (leb c 3) c 0 (le-leb c 3 h))
+smaller : (c y : ℕ) → steps .valid (min (as-step c) y) ≡ true
+smaller c y = let h = ltb-true _ 4 (valid c) in lt-ltb _ 4 (omega arith)
+
+step-of : (f c : ℕ) → steps .valid c ≡ true → leb f (as-step c) ≡ leb f c
+step-of f c h = ap (leb f) (itself valid-steps c h)
 
 of-both : (f x y : ℕ) → leb f (min x y) ≡ (leb f x && leb f y)
 of-both f x y = grind (arith, tells)
@@ -41,28 +46,15 @@ lawful =
       strip-less = λ r k h e. and-parts _ _ (sym (both (first-step k) r 1) ∙ e) .0;
       strip-modify = λ r. both 2 r 1 ∙ and-right _ false refl;
       strip-unconfined = λ r. both 2 r 1 ∙ and-right _ false refl;
-      add-delete-exact = λ r k h. step-of (first-step k) (as-step r) (at-most-three r) ∙ deletes k (as-step r);
+      add-delete-exact = λ r k h. step-of (first-step k) (as-step r) (valid r) ∙ deletes k (as-step r);
       admit-new = λ a n k h e. and-parts _ _ (sym (both (first-step k) n (max (as-step a) 1)) ∙ e) .0;
       admit-given = λ a n k h e.
           guarded k (as-step a) h (and-parts _ _ (sym (both (first-step k) n (max (as-step a) 1)) ∙ e) .1);
       full-grants = full-from;
       zero-valid = refl;
-      restrict-valid = λ r m. le-leb _ 3 (smaller r (as-step m));
-      strip-valid = λ r. le-leb _ 3 (smaller r 1);
-      add-delete-valid = λ r. le-leb _ 3 (at-most-three r);
-      admit-valid = λ a n. le-leb _ 3 (smaller n (max (as-step a) 1));
+      restrict-valid = λ r m. smaller r (as-step m);
+      strip-valid = λ r. smaller r 1;
+      add-delete-valid = valid;
+      admit-valid = λ a n. smaller n (max (as-step a) 1);
       full-valid = refl;
-    }
-
-pub invalid : Invalid-as-zero steps
-invalid c e =
-    let z : as-step c ≡ 0 = cond-false (leb c 3) c 0 e in
-    record {
-      grants = λ k. ap (λ (x : ℕ). leb (first-step k) x) z;
-      restrict = λ m. ap (λ (x : ℕ). min x (as-step m)) z;
-      restrict-by = λ r. ap (λ (x : ℕ). min (as-step r) x) z;
-      strip = ap (λ (x : ℕ). min x 1) z;
-      add-delete = z;
-      admit = λ n. ap (λ (x : ℕ). min (as-step n) (max x 1)) z;
-      admit-as = λ a. ap (λ (x : ℕ). min x (max (as-step a) 1)) z;
     }

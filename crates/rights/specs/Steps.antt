@@ -1,12 +1,9 @@
 -- Rights as steps of a review: code c grants the right k from its first step on.
 use mathlib.Core.Bool.{cond, _&&_, _||_}
 use Prim.Native.Nat.{ℕ, min, max}
-use lib.Dec.{leb, eqb}
+use lib.Dec.{leb, ltb, eqb}
 use Rattle.model.specs.Model.{Rule}
-
--- an invalid code is step 0
-abbrev pub as-step : ℕ → ℕ
-as-step c = cond (leb c 3) c 0
+use Rattle.rights.specs.Codes.{on-every}
 
 -- the step that first grants the right k; none has the rights above 20
 abbrev pub first-step : ℕ → ℕ
@@ -17,14 +14,17 @@ first-step k =
     (cond (leb k 10) 2
     4)))
 
-abbrev pub steps : Rule
-steps =
+abbrev pub valid-steps : Rule
+valid-steps =
     record {
-      valid = λ c. leb c 3;
-      grants = λ c k. leb (first-step k) (as-step c);
-      restrict = λ c m. min (as-step c) (as-step m);
-      strip = λ c. min (as-step c) 1;
-      add-delete = λ c. as-step c;
-      admit = λ a n. min (as-step n) (max (as-step a) 1);
+      valid = λ c. ltb c 4;
+      grants = λ c k. leb (first-step k) c;
+      restrict = λ c m. min c m;
+      strip = λ c. min c 1;
+      add-delete = λ c. c;
+      admit = λ a n. min n (max a 1);
       full = 3;
     }
+
+abbrev pub steps : Rule
+steps = on-every valid-steps

@@ -1,6 +1,7 @@
 // Rights as a word of 21 bits: bit k grants the right k.
 ghost use mathlib.Core.Path.{_≡_};
-ghost use Rattle.rights.specs.Bits.{bits, as-bits};
+ghost use Rattle.rights.specs.Codes.{reading};
+ghost use Rattle.rights.specs.Bits.{bits, valid-bits};
 use crate::rule::RightsRule;
 
 #[derive(Drop)]
@@ -12,7 +13,7 @@ const UNSTRIPPED: u32 = 2_095_615;
 const FREE: u32 = 2_095_613;
 
 fn as_bits(code: u32) -> u32
-    ensures { λ r. ⌜ r ≡ as-bits code ⌝ }
+    ensures { λ r. ⌜ r ≡ reading valid-bits code ⌝ }
 {
     if code < 2_097_152 { code } else { 0 }
 }

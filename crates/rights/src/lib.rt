@@ -1,3 +1,4 @@
 pub mod bits;
+pub mod names;
 pub mod rule;
 pub mod steps;

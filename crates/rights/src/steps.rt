@@ -1,15 +1,16 @@
 // Rights as steps of a review, 0 to 3: each step grants what the one below it does, and more.
 ghost use mathlib.Core.Path.{_≡_};
-ghost use Rattle.rights.specs.Steps.{steps, as-step, first-step};
+ghost use Rattle.rights.specs.Codes.{reading};
+ghost use Rattle.rights.specs.Steps.{steps, valid-steps, first-step};
 use crate::rule::RightsRule;
 
 #[derive(Drop)]
 pub struct Steps {}
 
 fn as_step(code: u32) -> u32
-    ensures { λ r. ⌜ r ≡ as-step code ⌝ }
+    ensures { λ r. ⌜ r ≡ reading valid-steps code ⌝ }
 {
-    if code <= 3 { code } else { 0 }
+    if code < 4 { code } else { 0 }
 }
 
 fn first_step(right: u8) -> u32
@@ -28,7 +29,7 @@ pub impl RightsRule for Steps as StepsRule {
     ghost rule = { steps };
 
     fn is_valid(&self, code: u32) -> bool {
-        code <= 3
+        code < 4
     }
 
     fn does_grant(&self, code: u32, right: u8) -> bool {
