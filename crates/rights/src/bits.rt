@@ -7,9 +7,10 @@ use crate::rule::RightsRule;
 #[derive(Drop)]
 pub struct Bits {}
 
-// Every bit but those of MDFYRTS and UCNFRTS, and every bit but those and ENVRTS's.
+// Every bit but those of MDFYRTS and UCNFRTS.
 const UNSTRIPPED: u32 = 2_095_615;
 
+// Every bit but those of ENVRTS, MDFYRTS and UCNFRTS.
 const FREE: u32 = 2_095_613;
 
 fn as_bits(code: u32) -> u32

@@ -45,7 +45,7 @@ pub impl RightsRule for Steps as StepsRule {
     }
 
     fn with_delete(&self, code: u32) -> u32 {
-        as_step(code)
+        as_step(code) // every step has DLTRTS
     }
 
     fn admitted(&self, given: u32, new: u32) -> u32 {
@@ -53,6 +53,6 @@ pub impl RightsRule for Steps as StepsRule {
     }
 
     fn everything(&self) -> u32 {
-        3
+        3 // the last step
     }
 }
