@@ -1,0 +1,4 @@
+mod BitLaws
+mod Placing
+mod Reading
+mod StepLaws
