@@ -14,8 +14,24 @@ use Rattle.model.specs.declared.kinds.Holder.the-variants.{Mine, Listed}
 use Rattle.model.specs.Model.{Body, Task, Frame, World}
 use Rattle.model.specs.Isolation.{If}
 use Rattle.model.specs.Kalls.{
-  same-name, on-object, on-living, on-given, on-process, lifted, put-top, respaced, relisted, put-own, put-listed, fresh, refilled,
-  Edit, put, make, apply, apply-all
+  same-name,
+  on-object,
+  on-living,
+  on-given,
+  on-process,
+  lifted,
+  put-top,
+  respaced,
+  relisted,
+  put-own,
+  put-listed,
+  fresh,
+  refilled,
+  Edit,
+  put,
+  make,
+  apply,
+  apply-all,
 }
 use Rattle.model.specs.Kalls.{next as next-name}
 use Rattle.model.proofs.Safe.{Setting, level, Fit, Fits, Fits-spaces, Own, Own-at, Inv, Alike, Alike-all}
@@ -61,7 +77,7 @@ module _ (S : Setting) where
         process = λ p c. sym (a .process p c);
         living = λ p c. sym (a .living p c);
         given = λ p c. sym (a .given p c);
-        object = λ n k. sym (a .object n k)
+        object = λ n k. sym (a .object n k);
       }
 
   pub alike-trans : {u v w : Frame} → Alike S u v → Alike S v w → Alike S u w
@@ -70,7 +86,7 @@ module _ (S : Setting) where
         process = λ p c. a .process p c ∙ b .process p c;
         living = λ p c. a .living p c ∙ b .living p c;
         given = λ p c. a .given p c ∙ b .given p c;
-        object = λ n k. a .object n k ∙ b .object n k
+        object = λ n k. a .object n k ∙ b .object n k;
       }
 
   -- the changes, each: it keeps the invariant; done in two alike frames it leaves them alike; of the others it leaves the frame alike
@@ -82,21 +98,24 @@ module _ (S : Setting) where
     process-inv b c h w i =
         record {
           spaces = λ q. by-eq
-            (λ x. If (λ pr. Fits-spaces S (S .cast q) (pr .spaces)) (cond x (g (w .process q)) (w .process q)))
-            q p
-            (λ e. let cq : S .cast q ≡ b = ap (S .cast) e ∙ c in
+              (λ x. If (λ pr. Fits-spaces S (S .cast q) (pr .spaces)) (cond x (g (w .process q)) (w .process q)))
+              q p
+              (λ e. let cq : S .cast q ≡ b = ap (S .cast) e ∙ c in
               subst (λ x. If (λ pr. Fits-spaces S x (pr .spaces)) (g (w .process q))) (sym cq)
-                (h (w .process q) (subst (λ x. If (λ pr. Fits-spaces S x (pr .spaces)) (w .process q)) cq (i .spaces q))))
-            (i .spaces q);
+              (h (w .process q) (subst (λ x. If (λ pr. Fits-spaces S x (pr .spaces)) (w .process q)) cq (i .spaces q))))
+              (i .spaces q);
           lists = i .lists;
-          gone = i .gone
+          gone = i .gone;
         }
 
     process-alike : {v w : Frame} → Alike S v w → Alike S (on-process p g v) (on-process p g w)
     unfolding on-process
     process-alike a =
         record {
-          process = λ q c. ap (λ o. cond (eqb q p) (g o) o) (a .process q c); living = a .living; given = a .given; object = a .object
+          process = λ q c. ap (λ o. cond (eqb q p) (g o) o) (a .process q c);
+          living = a .living;
+          given = a .given;
+          object = a .object;
         }
 
     process-quiet : S .cast p ≡ false → (w : Frame) → Alike S (on-process p g w) w
@@ -104,11 +123,11 @@ module _ (S : Setting) where
     process-quiet t w =
         record {
           process = λ q c. by-eq
-            (λ x. cond x (g (w .process q)) (w .process q) ≡ w .process q)
-            q p (λ e. absurd (false≢true (sym t ∙ (ap (S .cast) (sym e) ∙ c)))) refl;
+              (λ x. cond x (g (w .process q)) (w .process q) ≡ w .process q)
+              q p (λ e. absurd (false≢true (sym t ∙ (ap (S .cast) (sym e) ∙ c)))) refl;
           living = λ q c. refl;
           given = λ q c. refl;
-          object = λ n k. refl
+          object = λ n k. refl;
         }
 
   module _ (n : Name) (g : Option Body → Option Body) where
@@ -120,26 +139,28 @@ module _ (S : Setting) where
         record {
           spaces = i .spaces;
           lists = λ c k l. by-name
-            (λ x. If (λ o. Fits S (level c true) (o .list)) (cond x (g (w .object k)) (w .object k)))
-            k n
-            (λ e. subst
+              (λ x. If (λ o. Fits S (level c true) (o .list)) (cond x (g (w .object k)) (w .object k)))
+              k n
+              (λ e. subst
               (λ x. If (λ o. Fits S (level x true) (o .list)) (g (w .object k)))
               (own-one S k b c (subst (Own S b) (sym e) m) l)
               (h (w .object k) (i .lists b k (subst (Own S b) (sym e) m))))
-            (i .lists c k l);
+              (i .lists c k l);
           gone = λ k q. by-name
-            (λ x. cond x (g (w .object k)) (w .object k) ≡ None)
-            k n
-            (λ e. ap g (i .gone k q) ∙ z (subst (S .Gone) e q))
-            (i .gone k q)
+              (λ x. cond x (g (w .object k)) (w .object k) ≡ None)
+              k n
+              (λ e. ap g (i .gone k q) ∙ z (subst (S .Gone) e q))
+              (i .gone k q);
         }
 
     object-alike : {v w : Frame} → Alike S v w → Alike S (on-object n g v) (on-object n g w)
     unfolding on-object
     object-alike a =
         record {
-          process = a .process; living = a .living; given = a .given;
-          object = λ k q. ap (λ o. cond (same-name k n) (g o) o) (a .object k q)
+          process = a .process;
+          living = a .living;
+          given = a .given;
+          object = λ k q. ap (λ o. cond (same-name k n) (g o) o) (a .object k q);
         }
 
     object-quiet : Own S false n → (w : Frame) → Alike S (on-object n g w) w
@@ -150,8 +171,8 @@ module _ (S : Setting) where
           living = λ q c. refl;
           given = λ q c. refl;
           object = λ k q. by-name
-            (λ x. cond x (g (w .object k)) (w .object k) ≡ w .object k)
-            k n (λ e. absurd (m (subst (S .Kept) e q))) refl
+              (λ x. cond x (g (w .object k)) (w .object k) ≡ w .object k)
+              k n (λ e. absurd (m (subst (S .Kept) e q))) refl;
         }
 
   module _ (s : ℕ) (g : ℕ → ℕ) where
@@ -203,16 +224,16 @@ module _ {E : Type 0} (S : Setting) where
   unfolding put-own put-listed
   edit-inv b p c (put Mine i s) h w v =
       process-inv S p (lifted (respaced (put-top (i - 1) s))) b c
-        (lifts S (λ t. Fits-spaces S b (t .spaces)) (respaced (put-top (i - 1) s)) (λ t k. fits-put S b (i - 1) s (t .spaces) (h .1) k)) (w .frame) v
+      (lifts S (λ t. Fits-spaces S b (t .spaces)) (respaced (put-top (i - 1) s)) (λ t k. fits-put S b (i - 1) s (t .spaces) (h .1) k)) (w .frame) v
   edit-inv b p c (put (Listed n) i s) h w v =
       object-inv S n (lifted (relisted (λ l. set l (i - 1) s))) b (h .0)
-        (lifts S (λ o. Fits S (level b true) (o .list)) (relisted (λ l. set l (i - 1) s)) (λ o k. fits-set S (level b true) (o .list) (i - 1) s k (h .1)))
-        (λ _. refl) (w .frame) v
+      (lifts S (λ o. Fits S (level b true) (o .list)) (relisted (λ l. set l (i - 1) s)) (λ o k. fits-set S (level b true) (o .list) (i - 1) s k (h .1)))
+      (λ _. refl) (w .frame) v
   edit-inv b p c (make kind xs) h w v =
       living-inv S p (λ k. k + 1) (given-inv S p (λ k. k + 1)
-        (object-inv S (next-name p (w .frame)) (λ o. fresh kind) b (own-new S b p (w .frame .given p + 1) c h)
-          (λ o k. fits-empty S (level b true) 8)
-          (λ z. absurd (S .house (next-name p (w .frame)) h z)) (w .frame) v))
+      (object-inv S (next-name p (w .frame)) (λ o. fresh kind) b (own-new S b p (w .frame .given p + 1) c h)
+      (λ o k. fits-empty S (level b true) 8)
+      (λ z. absurd (S .house (next-name p (w .frame)) h z)) (w .frame) v))
 
   refilled-alike : (n : Name) (xs : List E) (v w : Name → List E) → ((m : Name) → S .Kept m → v m ≡ w m)
       → (m : Name) → S .Kept m → refilled n xs v m ≡ refilled n xs w m
@@ -230,13 +251,13 @@ module _ {E : Type 0} (S : Setting) where
   edit-alike p c (make kind xs) {v} {w} a =
       record {
         frame = living-alike S p (λ k. k + 1) (given-alike S p (λ k. k + 1)
-          (subst (λ k. Alike S (on-object (next-name p (v .frame)) (λ o. fresh kind) (v .frame))
-              (on-object (record { share = p; number = k + 1 }) (λ o. fresh kind) (w .frame)))
+            (subst (λ k. Alike S (on-object (next-name p (v .frame)) (λ o. fresh kind) (v .frame))
+            (on-object (record { share = p; number = k + 1 }) (λ o. fresh kind) (w .frame)))
             (a .frame .given p c)
             (object-alike S (next-name p (v .frame)) (λ o. fresh kind) (a .frame))));
         elements = subst (λ k. (m : Name) → S .Kept m → refilled (next-name p (v .frame)) xs (v .elements) m ≡ refilled (record { share = p; number = k + 1 }) xs (w .elements) m)
-          (a .frame .given p c)
-          (refilled-alike (next-name p (v .frame)) xs (v .elements) (w .elements) (a .elements))
+            (a .frame .given p c)
+            (refilled-alike (next-name p (v .frame)) xs (v .elements) (w .elements) (a .elements));
       }
 
   pub edit-quiet : (p : ℕ) → S .cast p ≡ false → (e : Edit E) → Admits S false p e → (w : World E) → Alike-all S (apply p e w) w
@@ -249,8 +270,8 @@ module _ {E : Type 0} (S : Setting) where
       let w₁ : Frame = on-object (next-name p (w .frame)) (λ o. fresh kind) (w .frame) in
       record {
         frame = alike-trans S (living-quiet S p (λ k. k + 1) c (on-given p (λ k. k + 1) w₁))
-          (alike-trans S (given-quiet S p (λ k. k + 1) c w₁) (object-quiet S (next-name p (w .frame)) (λ o. fresh kind) own (w .frame)));
-        elements = refilled-quiet (next-name p (w .frame)) xs (w .elements) own
+            (alike-trans S (given-quiet S p (λ k. k + 1) c w₁) (object-quiet S (next-name p (w .frame)) (λ o. fresh kind) own (w .frame)));
+        elements = refilled-quiet (next-name p (w .frame)) xs (w .elements) own;
       }
 
   -- and so for lists of edits

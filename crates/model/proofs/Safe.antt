@@ -103,12 +103,13 @@ module _ {E A B : Type 0} {S : Setting} {b : Bool} where
   bind {m} {k} {Q} {R} h f =
       record {
         good = λ w i. well w i (m w) (h .good w i);
-        same = λ t v w i j a. ap (λ r. after r (λ x. k x v)) (h .same t v w i j a) ∙ also t v w i j a (m w) (h .good w j)
+        same = λ t v w i j a. ap (λ r. after r (λ x. k x v)) (h .same t v w i j a) ∙ also t v w i j a (m w) (h .good w j);
       }
     where
       well : (w : World E) → Inv S (w .frame) → (r : Result A Fault) → On Q r → On R (after r (λ a. k a w))
       well w i (Ok a) q = f a q .good w i
       well w i (Err e) q = tt
+
       also : b ≡ true → (v w : World E) → Inv S (v .frame) → Inv S (w .frame) → Alike-all S v w → (r : Result A Fault) → On Q r
           → after r (λ x. k x v) ≡ after r (λ x. k x w)
       also t v w i j a (Ok x) q = f x q .same t v w i j a

@@ -18,18 +18,31 @@ use Rattle.model.specs.declared.signals.Fault.{Fault}
 use Rattle.model.specs.Model.{Body, Task, Frame, World, Rule, Laws}
 use Rattle.model.specs.Kalls.{Outcome, Asked, run, serve, plan, answer-of, buffer-of, world-of}
 use Rattle.model.specs.Isolation.{
-  If, Of, Has, Has-space, Holds, Lists, Lives, Sight, holding, listing, Looked-at, Alike-to, Matches, Match, struck-out, of-cast, Guarded,
-  Always, Isolated, Isolates
+  If,
+  Of,
+  Has,
+  Has-space,
+  Holds,
+  Lists,
+  Lives,
+  Sight,
+  holding,
+  listing,
+  Looked-at,
+  Alike-to,
+  Matches,
+  Match,
+  struck-out,
+  of-cast,
+  Guarded,
+  Always,
+  Isolated,
+  Isolates,
 }
+use Rattle.model.proofs.Opened.{Opened, unmade, held-house, listed-house}
 use Rattle.model.proofs.Safe.{Setting, Level, inside, level, Side, Fit, Fits, Fits-spaces, Own, Inv, Alike, Alike-all, On, Sound}
 use Rattle.model.proofs.Edits.{alike-self, alike-sym, all-self, all-trans, edits-inv, edits-alike, edits-quiet}
 use Rattle.model.proofs.Each.{Good, sound-plan}
-
--- a scene as set-up leaves it: house objects alone, and capabilities for them alone
-pub record Opened (w : Frame) : Type 0 where
-  pub unmade : (n : Name) → 1 ≤ n .share → w .object n ≡ None
-  pub held-house : (p : ℕ) (c : Cap) → Holds w p (Capability c) → c .name .share ≡ 0
-  pub listed-house : (m : Name) (c : Cap) → Lists w m (Capability c) → c .name .share ≡ 0
 
 module _ (S : Setting) where
   -- what fits, slot by slot, and back
@@ -66,7 +79,7 @@ module _ (S : Setting) where
       → Side S (level b true) x
   held-side w i p x b c h =
       if-of _ _ (λ pr f k. fits-has-space S b x (pr .spaces) f k) (w .process p)
-        (subst (λ y. If (λ pr. Fits-spaces S y (pr .spaces)) (w .process p)) c (i .spaces p)) h
+      (subst (λ y. If (λ pr. Fits-spaces S y (pr .spaces)) (w .process p)) c (i .spaces p)) h
 
   -- the cast sees only what is kept
   lives-kept : (w : Frame) (n : Name) → Inv S w → S .Kept n ⊎ S .Gone n → Lives w n → S .Kept n
@@ -77,17 +90,17 @@ module _ (S : Setting) where
   sight-kept w i n (holding p x c h l) = lives-kept w (x .name) i (held-side w i p x true c h) l
   sight-kept w i n (listing m x s h l) =
       lives-kept w (x .name) i
-        (if-of _ _ (λ o f k. fits-has S inside x (o .list) f k) (w .object m) (i .lists true m (sight-kept w i m s)) h) l
+      (if-of _ _ (λ o f k. fits-has S inside x (o .list) f k) (w .object m) (i .lists true m (sight-kept w i m s)) h) l
 
   sight-alike : (v w : Frame) → Inv S v → Alike S v w → (n : Name) → Sight (S .cast) v n → Sight (S .cast) w n
   sight-alike v w i a n (holding p x c h l) =
       holding p x c
-        (subst (λ y. Of (λ pr. Has-space (Capability x) (pr .spaces)) y) (a .process p c) h)
-        (subst (Of (λ _. Unit {0})) (a .object (x .name) (lives-kept v (x .name) i (held-side v i p x true c h) l)) l)
+      (subst (λ y. Of (λ pr. Has-space (Capability x) (pr .spaces)) y) (a .process p c) h)
+      (subst (Of (λ _. Unit {0})) (a .object (x .name) (lives-kept v (x .name) i (held-side v i p x true c h) l)) l)
   sight-alike v w i a n (listing m x s h l) =
       listing m x (sight-alike v w i a m s)
-        (subst (λ y. Of (λ o. Has (Capability x) (o .list)) y) (a .object m (sight-kept v i m s)) h)
-        (subst (Of (λ _. Unit {0})) (a .object (x .name) (sight-kept v i (x .name) (listing m x s h l))) l)
+      (subst (λ y. Of (λ o. Has (Capability x) (o .list)) y) (a .object m (sight-kept v i m s)) h)
+      (subst (Of (λ _. Unit {0})) (a .object (x .name) (sight-kept v i (x .name) (listing m x s h l))) l)
 
   alike-to : {E : Type 0} (v w : World E) → Inv S (v .frame) → Inv S (w .frame) → Alike-all S v w → Alike-to (S .cast) v w
   alike-to v w i j a =
@@ -95,7 +108,7 @@ module _ (S : Setting) where
         spaces = a .frame .process;
         sight = λ n. (sight-alike (v .frame) (w .frame) i (a .frame) n, sight-alike (w .frame) (v .frame) j (alike-sym S (a .frame)) n);
         objects = λ n s. a .frame .object n (sight-kept (v .frame) i n s);
-        elements = λ n s. a .elements n (sight-kept (v .frame) i n s)
+        elements = λ n s. a .elements n (sight-kept (v .frame) i n s);
       }
 
 module _ {E : Type 0} (S : Setting) where
@@ -137,7 +150,7 @@ module _ {E : Type 0} (S : Setting) where
             kall = refl;
             answer = ap answer-of same-plan;
             buffer = ap (buffer-of (r .buffer)) same-plan;
-            after = alike-to S _ _ (serve-inv true c v i) (serve-inv true c w j) serve-alike
+            after = alike-to S _ _ (serve-inv true c v i) (serve-inv true c w j) serve-alike;
           }
 
   -- every request
@@ -149,14 +162,15 @@ module _ {E : Type 0} (S : Setting) where
     where
       go : (c : Bool) → S .cast (r .caller) ≡ c
           → ((v w : World E) → Inv S (v .frame) → Inv S (w .frame) → Alike-all S v w
-            → Match (S .cast) (of-cast (S .cast) (run (S .rule) rs v)) (run (S .rule) (struck-out (S .cast) rs) w))
+          → Match (S .cast) (of-cast (S .cast) (run (S .rule) rs v)) (run (S .rule) (struck-out (S .cast) rs) w))
           → Match (S .cast)
-            (cond c (serve (S .rule) r v ∷ of-cast (S .cast) (run (S .rule) rs (serve (S .rule) r v .world)))
-              (of-cast (S .cast) (run (S .rule) rs (serve (S .rule) r v .world))))
-            (run (S .rule) (cond c (r ∷ struck-out (S .cast) rs) (struck-out (S .cast) rs)) w)
-      go true c f =
-          (serve-matches r c v w i j a
-          , f _ _ (serve-inv r true c v i) (serve-inv r true c w j) (serve-alike r c v w i j a))
+          (cond c (serve (S .rule) r v ∷ of-cast (S .cast) (run (S .rule) rs (serve (S .rule) r v .world)))
+          (of-cast (S .cast) (run (S .rule) rs (serve (S .rule) r v .world))))
+          (run (S .rule) (cond c (r ∷ struck-out (S .cast) rs) (struck-out (S .cast) rs)) w)
+      go true c f = (
+        serve-matches r c v w i j a,
+        f _ _ (serve-inv r true c v i) (serve-inv r true c w j) (serve-alike r c v w i j a),
+      )
       go false c f = f _ w (serve-inv r false c v i) j (all-trans S (serve-quiet r c v i) a)
 
   run-always : (F : Frame → Type 0) → ((w : Frame) → Inv S w → F w) → (rs : List (Asked E)) (w : World E) → Inv S (w .frame)
@@ -190,10 +204,10 @@ module _ (rule : Rule) (laws : Laws rule) (cast : ℕ → Bool) (zero-out : cast
         Gone = λ n. (n .share ≡ 0) × (w .object n ≡ None);
         made = λ n c. inr c;
         unmade = λ n h c. elim [
-          inl s ↦ dead n (o .unmade n h) (sight-lives n s)
+          | inl s ↦ dead n (unmade o n h) (sight-lives n s)
           | inr d ↦ false≢true (sym c ∙ d)
         ];
-        house = λ n h g. omega (arith, g .0)
+        house = λ n h g. omega (arith, g .0);
       }
 
   -- a capability of the house: it leads to what lives and is seen, or never leads anywhere
@@ -205,22 +219,22 @@ module _ (rule : Rule) (laws : Laws rule) (cast : ℕ → Bool) (zero-out : cast
       go (Some y) q = inl (inl (f (rw q tt)))
 
   held-at-first : (b : Bool) (p : ℕ) → cast p ≡ b → (x : Cap) → Holds w p (Capability x) → Side setting (level b true) x
-  held-at-first true p c x h = found x (o .held-house p x h) (λ l. holding p x c h l)
+  held-at-first true p c x h = found x (held-house o p x h) (λ l. holding p x c h l)
   held-at-first false p c x h = elim [
-      inl s ↦ l .held p x c h s
-      | inr d ↦ absurd (no-home (x .name .share) (o .held-house p x h) d)
+    | inl s ↦ l .held p x c h s
+    | inr d ↦ absurd (no-home (x .name .share) (held-house o p x h) d)
   ]
 
   listed-at-first : (b : Bool) (m : Name) → Own setting b m → (x : Cap) → Lists w m (Capability x) → Side setting (level b true) x
-  listed-at-first true m (inl s) x h = found x (o .listed-house m x h) (λ l. listing m x s h l)
-  listed-at-first true m (inr d) x h = absurd (unlisted m (Capability x) (o .unmade m (some-share (m .share) d)) h)
+  listed-at-first true m (inl s) x h = found x (listed-house o m x h) (λ l. listing m x s h l)
+  listed-at-first true m (inr d) x h = absurd (unlisted m (Capability x) (unmade o m (some-share (m .share) d)) h)
     where
       some-share : (s : ℕ) → cast s ≡ true → 1 ≤ s
       some-share zero c = absurd (no-home 0 refl c)
       some-share (suc s) c = omega arith
   listed-at-first false m k x h = elim [
-      inl s ↦ l .listed m x (λ z. k (inl z)) h s
-      | inr d ↦ absurd (no-home (x .name .share) (o .listed-house m x h) d)
+    | inl s ↦ l .listed m x (λ z. k (inl z)) h s
+    | inr d ↦ absurd (no-home (x .name .share) (listed-house o m x h) d)
   ]
 
   first : Inv setting w
@@ -228,7 +242,7 @@ module _ (rule : Rule) (laws : Laws rule) (cast : ℕ → Bool) (zero-out : cast
       record {
         spaces = λ p. spaces-of (w .process p) (cast p) (held-at-first (cast p) p refl);
         lists = λ b m k. lists-of (w .object m) b (listed-at-first b m k);
-        gone = λ n g. g .1
+        gone = λ n g. g .1;
       }
     where
       spaces-of : (y : Option Task) (b : Bool)
@@ -236,6 +250,7 @@ module _ (rule : Rule) (laws : Laws rule) (cast : ℕ → Bool) (zero-out : cast
           → If (λ pr. Fits-spaces setting b (pr .spaces)) y
       spaces-of None b h = tt
       spaces-of (Some pr) b h = has-fits-space setting b (pr .spaces) h
+
       lists-of : (y : Option (Body)) (b : Bool)
           → ((x : Cap) → Of (λ o. Has (Capability x) (o .list)) y → Side setting (level b true) x)
           → If (λ o. Fits setting (level b true) (o .list)) y
@@ -246,7 +261,6 @@ module _ (rule : Rule) (laws : Laws rule) (cast : ℕ → Bool) (zero-out : cast
   guards v i q x c h (inl s) = held-side setting v i q x false c h (inl s)
   guards v i q x c h (inr m) = held-side setting v i q x false c h (inr (m .0))
 
-
 pub isolates : {E : Type 0} (rule : Rule) → Laws rule → (w : World E) → Opened (w .frame) → (rs : List (Asked E)) → Isolates rule w rs
 unfolding Isolates
 isolates rule laws w o rs cast z l =
@@ -254,5 +268,5 @@ isolates rule laws w o rs cast z l =
     record {
       same = run-match (setting rule laws cast z (w .frame) o l) rs w w i i (all-self (setting rule laws cast z (w .frame) o l) w);
       opening = guards rule laws cast z (w .frame) o l (w .frame) i;
-      guarded = run-always (setting rule laws cast z (w .frame) o l) (Guarded rule cast (w .frame)) (guards rule laws cast z (w .frame) o l) rs w i
+      guarded = run-always (setting rule laws cast z (w .frame) o l) (Guarded rule cast (w .frame)) (guards rule laws cast z (w .frame) o l) rs w i;
     }

@@ -2,5 +2,5 @@ pub mod Signals
 pub mod Model
 pub mod Plan
 pub mod Kalls
-pub mod SetUp
 pub mod Isolation
+pub mod SetUp

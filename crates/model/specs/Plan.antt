@@ -21,7 +21,6 @@ use Rattle.model.specs.Signals.{fault}
 use Rattle.model.specs.Model.{Body, Task, Frame, Rule}
 
 infixl 20 _>>=_ _>>_
-
 abbrev pub Plan : Type 0 → Type 0 → Type 0
 Plan W A = W → Result A Fault
 

@@ -40,9 +40,9 @@ seek-found rows n zero i p e = absurd (not-some p e)
 seek-found rows n (suc k) i p e =
     ⊎-elim
     (λ t. let f : i ≡ p = some-is i p (rw t at e) in
-      record { number = subst (λ (x : ℕ). row-at rows x .number ≡ n) f (eqb-true (row-at rows i .number) n t); low = omega arith; high = omega arith })
+    record { number = subst (λ (x : ℕ). row-at rows x .number ≡ n) f (eqb-true (row-at rows i .number) n t); low = omega arith; high = omega arith })
     (λ t. let r = seek-found rows n k (suc i) p (rw t at e) in
-      record { number = r .number; low = omega arith; high = omega arith })
+    record { number = r .number; low = omega arith; high = omega arith })
     (cases-bool (eqb (row-at rows i .number) n))
 
 -- rows that have a number at the same places
@@ -76,7 +76,6 @@ pub inside : (rows : List Row) (p n : ℕ) → row-at rows p .number ≡ n → (
 inside [] p n e h = absurd (h (sym e))
 inside (r ∷ rows) zero n e h = omega arith
 inside (r ∷ rows) (suc p) n e h = let t = inside rows p n e h in omega arith
-
 
 -- slots of a lot
 pub lot-at : (xs : List Slot) (b k i : ℕ) → i < k → getD (lot xs b k) i Empty ≡ getD xs (b + i) Empty
@@ -123,8 +122,8 @@ one-place rows m n p q e d same t =
     let f = place-found rows (m .share) (m .number) p e in
     let g = place-found rows (n .share) (n .number) q d in
     not-both m n t
-      (shares (m .share) (n .share) q (subst (λ (x : ℕ). base-of (m .share) ≤ x) same (f .0 .low)) (subst (λ (x : ℕ). x < base-of (m .share) + places (m .share)) same (f .0 .high)) (g .0 .low) (g .0 .high))
-      (sym (f .0 .number) ∙ ap (λ (x : ℕ). row-at rows x .number) same ∙ g .0 .number)
+    (shares (m .share) (n .share) q (subst (λ (x : ℕ). base-of (m .share) ≤ x) same (f .0 .low)) (subst (λ (x : ℕ). x < base-of (m .share) + places (m .share)) same (f .0 .high)) (g .0 .low) (g .0 .high))
+    (sym (f .0 .number) ∙ ap (λ (x : ℕ). row-at rows x .number) same ∙ g .0 .number)
 
 -- the slot i of the object at p is put
 module _ (rows : List Row) (slots : List Slot) (n : Name) (p i : ℕ) (v : Slot) (found : place-of rows (n .share) (n .number) ≡ Some p) (small : i < 8) (fits : 8 * p + 8 ≤ length slots) where
@@ -140,9 +139,9 @@ module _ (rows : List Row) (slots : List Slot) (n : Name) (p i : ℕ) (v : Slot)
   put-object = fun-ext (λ m.
       ⊎-elim
       (λ t. let b = both m n t in
-        let e : place-of rows (m .share) (m .number) ≡ Some p = rw (b .0, b .1) found in
-        rw t (subst (λ (o : Option ℕ). body-from rows (set slots (8 * p + i) v) o ≡ lifted (relisted (λ l. set l i v)) (body-from rows slots o)) (sym e)
-          (ap (λ (l : List Slot). Some (record { kind = row-at rows p .kind; list = l })) (lot-set slots (8 * p) 8 i v small fits))))
+      let e : place-of rows (m .share) (m .number) ≡ Some p = rw (b .0, b .1) found in
+      rw t (subst (λ (o : Option ℕ). body-from rows (set slots (8 * p + i) v) o ≡ lifted (relisted (λ l. set l i v)) (body-from rows slots o)) (sym e)
+      (ap (λ (l : List Slot). Some (record { kind = row-at rows p .kind; list = l })) (lot-set slots (8 * p) 8 i v small fits))))
       (λ t. rw t (put-there m (place-of rows (m .share) (m .number)) t refl))
       (cases-bool (same-name m n)))
 
@@ -169,8 +168,11 @@ module _ (rows : List Row) (slots : List Slot) (given : List ℕ) (ps : List Pro
   put-none none =
       λ j. record {
         object = nothing-put rows slots n (lifted (relisted (λ l. set l i v)))
-          (λ m t. let b = both m n t in let e = object-none rows slots m (rw (b .0, b .1) none) in e ∙ sym (ap (lifted (relisted (λ l. set l i v))) e)) j;
-        living = living-of rows; given = λ s. getD given s 0; process = process-of ps }
+            (λ m t. let b = both m n t in let e = object-none rows slots m (rw (b .0, b .1) none) in e ∙ sym (ap (lifted (relisted (λ l. set l i v))) e)) j;
+        living = living-of rows;
+        given = λ s. getD given s 0;
+        process = process-of ps;
+      }
 
   body-past : 8 ≤ i → (o : Option ℕ) → body-from rows slots o ≡ lifted (relisted (λ l. set l i v)) (body-from rows slots o)
   body-past far None = refl
@@ -185,4 +187,7 @@ module _ (rows : List Row) (slots : List Slot) (given : List ℕ) (ps : List Pro
   put-past far =
       λ j. record {
         object = nothing-put rows slots n (lifted (relisted (λ l. set l i v))) (λ m t. object-past far m) j;
-        living = living-of rows; given = λ s. getD given s 0; process = process-of ps }
+        living = living-of rows;
+        given = λ s. getD given s 0;
+        process = process-of ps;
+      }

@@ -5,3 +5,7 @@ pub mod Fresh
 pub mod Spaces
 pub mod Making
 pub mod Filled
+pub mod Enrolling
+pub mod Housed
+pub mod Filling
+pub mod Creating

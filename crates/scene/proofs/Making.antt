@@ -39,8 +39,8 @@ lot-wiped xs b zero h = refl
 lot-wiped xs b (suc k) h =
     let n = length-set xs b Empty in
     ap₂ (λ (x : Slot) (l : List Slot). x ∷ l)
-      (below-wiped (set xs b Empty) (suc b) k b (omega arith) ∙ getD-set-same xs b Empty Empty (omega arith))
-      (lot-wiped (set xs b Empty) (suc b) k (omega arith))
+    (below-wiped (set xs b Empty) (suc b) k b (omega arith) ∙ getD-set-same xs b Empty Empty (omega arith))
+    (lot-wiped (set xs b Empty) (suc b) k (omega arith))
 
 lot-unwiped : (xs : List Slot) (c k b : ℕ) → (c + k ≤ b) ⊎ (b + 8 ≤ c) → lot (wiped xs c k) b 8 ≡ lot xs b 8
 unfolding wiped
@@ -112,14 +112,14 @@ count-more rows rows' p zero i z nz h a b = absurd (omega arith)
 count-more rows rows' p (suc k) i z nz h a b =
     ⊎-elim
     (λ (q : i ≡ p).
-      let ne : eqb (row-at rows' i .number) 0 ≡ false = ne-eqb (row-at rows' i .number) 0 (subst (λ (x : ℕ). row-at rows' x .number ≡ 0 → ⊥) (sym q) nz) in
-      let is : eqb (row-at rows i .number) 0 ≡ true = eq-eqb (row-at rows i .number) 0 (subst (λ (x : ℕ). row-at rows x .number ≡ 0) (sym q) z) in
-      let same : count rows' k (suc i) ≡ count rows k (suc i) = count-like rows' rows k (suc i) (λ j x y. let w : j ≡ p → ⊥ = omega arith in ap (λ (m : ℕ). eqb m 0) (h j w)) in
-      rw (ne, is, same))
+    let ne : eqb (row-at rows' i .number) 0 ≡ false = ne-eqb (row-at rows' i .number) 0 (subst (λ (x : ℕ). row-at rows' x .number ≡ 0 → ⊥) (sym q) nz) in
+    let is : eqb (row-at rows i .number) 0 ≡ true = eq-eqb (row-at rows i .number) 0 (subst (λ (x : ℕ). row-at rows x .number ≡ 0) (sym q) z) in
+    let same : count rows' k (suc i) ≡ count rows k (suc i) = count-like rows' rows k (suc i) (λ j x y. let w : j ≡ p → ⊥ = omega arith in ap (λ (m : ℕ). eqb m 0) (h j w)) in
+    rw (ne, is, same))
     (λ (q : i ≡ p → ⊥).
-      let same : eqb (row-at rows' i .number) 0 ≡ eqb (row-at rows i .number) 0 = ap (λ (m : ℕ). eqb m 0) (h i q) in
-      let more : count rows' k (suc i) ≡ suc (count rows k (suc i)) = count-more rows rows' p k (suc i) z nz h (omega arith) (omega arith) in
-      rw same (cond-suc (eqb (row-at rows i .number) 0) (count rows k (suc i)) (suc (count rows k (suc i))) (count rows' k (suc i)) (suc (count rows' k (suc i))) more (ap suc more)))
+    let same : eqb (row-at rows' i .number) 0 ≡ eqb (row-at rows i .number) 0 = ap (λ (m : ℕ). eqb m 0) (h i q) in
+    let more : count rows' k (suc i) ≡ suc (count rows k (suc i)) = count-more rows rows' p k (suc i) z nz h (omega arith) (omega arith) in
+    rw same (cond-suc (eqb (row-at rows i .number) 0) (count rows k (suc i)) (suc (count rows k (suc i))) (count rows' k (suc i)) (suc (count rows' k (suc i))) more (ap suc more)))
     (cases-eq i p)
 
 module _ (rows : List Row) (slots : List Slot) (given : List ℕ) (s p k g : ℕ) (is-g : g ≡ getD given s 0) (free : Some p ≡ seek rows 0 (places s) (base-of s)) (bounded : Bounded rows given) (long : length rows ≡ 160) (wide : length given ≡ 9) (big : length slots ≡ 1280) where
@@ -158,9 +158,9 @@ module _ (rows : List Row) (slots : List Slot) (given : List ℕ) (s p k g : ℕ
   place-new =
       let ne : eqb (g + 1) 0 ≡ false = ne-eqb (g + 1) 0 (omega arith) in
       rw ne (first-is new-rows (g + 1) (places s) (base-of s) p (found .low) (found .high) number-new
-        (λ j a b e. let w : j ≡ p → ⊥ = omega arith in
-          let u : row-at rows j .number ≤ g = below j a (omega (arith, found .high)) in
-          let v : row-at rows j .number ≡ g + 1 = sym (number-other j w) ∙ e in omega arith))
+      (λ j a b e. let w : j ≡ p → ⊥ = omega arith in
+      let u : row-at rows j .number ≤ g = below j a (omega (arith, found .high)) in
+      let v : row-at rows j .number ≡ g + 1 = sym (number-other j w) ∙ e in omega arith))
 
   -- every other name is where it was
   place-old : (s' n' : ℕ) → (s' ≡ s → n' ≡ g + 1 → ⊥) → place-of new-rows s' n' ≡ place-of rows s' n'
@@ -168,14 +168,14 @@ module _ (rows : List Row) (slots : List Slot) (given : List ℕ) (s p k g : ℕ
       ⊎-elim
       (λ (z : n' ≡ 0). rw (eq-eqb n' 0 z))
       (λ (z : n' ≡ 0 → ⊥). rw (ne-eqb n' 0 z) (seek-like new-rows rows n' (places s') (base-of s') (λ j a b.
-        ⊎-elim
-        (λ (q : j ≡ p).
-          let e : s' ≡ s = shares s' s p (subst (λ (x : ℕ). base-of s' ≤ x) q a) (subst (λ (x : ℕ). x < base-of s' + places s') q b) (found .low) (found .high) in
-          let l : eqb (row-at new-rows j .number) n' ≡ false = ne-eqb (row-at new-rows j .number) n' (λ y. h e (sym (sym number-new ∙ ap (λ (x : ℕ). row-at new-rows x .number) (sym q) ∙ y))) in
-          let r : eqb (row-at rows j .number) n' ≡ false = ne-eqb (row-at rows j .number) n' (λ y. z (sym (sym (found .number) ∙ ap (λ (x : ℕ). row-at rows x .number) (sym q) ∙ y))) in
-          l ∙ sym r)
-        (λ (q : j ≡ p → ⊥). ap (λ (x : ℕ). eqb x n') (number-other j q))
-        (cases-eq j p))))
+      ⊎-elim
+      (λ (q : j ≡ p).
+      let e : s' ≡ s = shares s' s p (subst (λ (x : ℕ). base-of s' ≤ x) q a) (subst (λ (x : ℕ). x < base-of s' + places s') q b) (found .low) (found .high) in
+      let l : eqb (row-at new-rows j .number) n' ≡ false = ne-eqb (row-at new-rows j .number) n' (λ y. h e (sym (sym number-new ∙ ap (λ (x : ℕ). row-at new-rows x .number) (sym q) ∙ y))) in
+      let r : eqb (row-at rows j .number) n' ≡ false = ne-eqb (row-at rows j .number) n' (λ y. z (sym (sym (found .number) ∙ ap (λ (x : ℕ). row-at rows x .number) (sym q) ∙ y))) in
+      l ∙ sym r)
+      (λ (q : j ≡ p → ⊥). ap (λ (x : ℕ). eqb x n') (number-other j q))
+      (cases-eq j p))))
       (cases-eq n' 0)
 
   abbrev new-slots : List Slot
@@ -209,8 +209,8 @@ module _ (rows : List Row) (slots : List Slot) (given : List ℕ) (s p k g : ℕ
   new-object m =
       ⊎-elim
       (λ t. let b = both m (record { share = s; number = g + 1 }) t in
-        let e : place-of new-rows (m .share) (m .number) ≡ Some p = rw (b .0, b .1) place-new in
-        rw t (ap (body-from new-rows new-slots) e ∙ ap₂ (λ (r : Row) (l : List Slot). Some (record { kind = r .kind; list = l })) at-new (lot-wiped slots (8 * p) 8 (omega (arith, small)))))
+      let e : place-of new-rows (m .share) (m .number) ≡ Some p = rw (b .0, b .1) place-new in
+      rw t (ap (body-from new-rows new-slots) e ∙ ap₂ (λ (r : Row) (l : List Slot). Some (record { kind = r .kind; list = l })) at-new (lot-wiped slots (8 * p) 8 (omega (arith, small)))))
       (λ t. rw t (ap (body-from new-rows new-slots) (place-old (m .share) (m .number) (not-both m (record { share = s; number = g + 1 }) t)) ∙ body-old m (place-of rows (m .share) (m .number)) refl))
       (cases-bool (same-name m (record { share = s; number = g + 1 })))
 
@@ -219,7 +219,7 @@ module _ (rows : List Row) (slots : List Slot) (given : List ℕ) (s p k g : ℕ
   new-homes = fun-ext (λ m.
       ⊎-elim
       (λ t. let b = both m (record { share = s; number = g + 1 }) t in
-        let e : place-of new-rows (m .share) (m .number) ≡ Some p = rw (b .0, b .1) place-new in rw t (ap on-shelf e))
+      let e : place-of new-rows (m .share) (m .number) ≡ Some p = rw (b .0, b .1) place-new in rw t (ap on-shelf e))
       (λ t. rw t (ap on-shelf (place-old (m .share) (m .number) (not-both m (record { share = s; number = g + 1 }) t))))
       (cases-bool (same-name m (record { share = s; number = g + 1 }))))
 
@@ -229,7 +229,7 @@ module _ (rows : List Row) (slots : List Slot) (given : List ℕ) (s p k g : ℕ
       ⊎-elim
       (λ (t : s' ≡ s). rw (eq-eqb s' s t, t) (let e = count-more rows new-rows p (places s) (base-of s) (found .number) (λ y. let q : g + 1 ≡ 0 = sym number-new ∙ y in omega arith) number-other (found .low) (found .high) in omega arith))
       (λ (t : s' ≡ s → ⊥). rw (ne-eqb s' s t) (count-like new-rows rows (places s') (base-of s') (λ j a b.
-        ap (λ (x : ℕ). eqb x 0) (number-other j (λ q. t (shares s' s p (subst (λ (x : ℕ). base-of s' ≤ x) q a) (subst (λ (x : ℕ). x < base-of s' + places s') q b) (found .low) (found .high)))))))
+      ap (λ (x : ℕ). eqb x 0) (number-other j (λ q. t (shares s' s p (subst (λ (x : ℕ). base-of s' ≤ x) q a) (subst (λ (x : ℕ). x < base-of s' + places s') q b) (found .low) (found .high)))))))
       (cases-eq s' s)
 
   new-given : (s' : ℕ) → getD (set given s (g + 1)) s' 0 ≡ cond (eqb s' s) (getD given s' 0 + 1) (getD given s' 0)
@@ -250,10 +250,10 @@ module _ (rows : List Row) (slots : List Slot) (given : List ℕ) (s p k g : ℕ
   new-bounded s' i a b =
       ⊎-elim
       (λ (q : i ≡ p).
-        let e : s' ≡ s = in-share s' i q a b in
-        let n : row-at new-rows i .number ≡ g + 1 = ap (λ (x : ℕ). row-at new-rows x .number) q ∙ number-new in
-        let m : getD (set given s (g + 1)) s' 0 ≡ g + 1 = rw (e, getD-set-same given s (g + 1) 0 (omega (arith, share-small))) in
-        omega arith)
+      let e : s' ≡ s = in-share s' i q a b in
+      let n : row-at new-rows i .number ≡ g + 1 = ap (λ (x : ℕ). row-at new-rows x .number) q ∙ number-new in
+      let m : getD (set given s (g + 1)) s' 0 ≡ g + 1 = rw (e, getD-set-same given s (g + 1) 0 (omega (arith, share-small))) in
+      omega arith)
       (λ (q : i ≡ p → ⊥). omega (arith, number-other i q, bounded s' i a b, given-grows s'))
       (cases-eq i p)
 
@@ -262,27 +262,28 @@ module _ (rows : List Row) (slots : List Slot) (given : List ℕ) (s p k g : ℕ
   new-distinct old s' i j t =
       ⊎-elim
       (λ (q : i ≡ p).
-        let e : s' ≡ s = in-share s' i q (t .low) (omega (arith, t .less, t .high)) in
-        let n : row-at new-rows i .number ≡ g + 1 = ap (λ (x : ℕ). row-at new-rows x .number) q ∙ number-new in
-        let m : row-at rows j .number ≤ g = below j (subst (λ (x : ℕ). base-of x ≤ j) e (omega (arith, t .low, t .less))) (subst (λ (x : ℕ). j < base-of x + places x) e (t .high)) in
-        omega (arith, t .same, number-other j (omega (arith, t .less))))
+      let e : s' ≡ s = in-share s' i q (t .low) (omega (arith, t .less, t .high)) in
+      let n : row-at new-rows i .number ≡ g + 1 = ap (λ (x : ℕ). row-at new-rows x .number) q ∙ number-new in
+      let m : row-at rows j .number ≤ g = below j (subst (λ (x : ℕ). base-of x ≤ j) e (omega (arith, t .low, t .less))) (subst (λ (x : ℕ). j < base-of x + places x) e (t .high)) in
+      omega (arith, t .same, number-other j (omega (arith, t .less))))
       (λ (q : i ≡ p → ⊥).
-        ⊎-elim
-        (λ (r : j ≡ p).
-          let e : s' ≡ s = in-share s' j r (omega (arith, t .low, t .less)) (t .high) in
-          let n : row-at new-rows j .number ≡ g + 1 = ap (λ (x : ℕ). row-at new-rows x .number) r ∙ number-new in
-          let m : row-at rows i .number ≤ g = below i (subst (λ (x : ℕ). base-of x ≤ i) e (t .low)) (subst (λ (x : ℕ). i < base-of x + places x) e (omega (arith, t .less, t .high))) in
-          omega (arith, t .same, number-other i q))
-        (λ (r : j ≡ p → ⊥).
-          omega (arith, number-other i q, old s' i j (record { low = t .low; less = t .less; high = t .high; same = sym (number-other i q) ∙ t .same ∙ number-other j r })))
-        (cases-eq j p))
+      ⊎-elim
+      (λ (r : j ≡ p).
+      let e : s' ≡ s = in-share s' j r (omega (arith, t .low, t .less)) (t .high) in
+      let n : row-at new-rows j .number ≡ g + 1 = ap (λ (x : ℕ). row-at new-rows x .number) r ∙ number-new in
+      let m : row-at rows i .number ≤ g = below i (subst (λ (x : ℕ). base-of x ≤ i) e (t .low)) (subst (λ (x : ℕ). i < base-of x + places x) e (omega (arith, t .less, t .high))) in
+      omega (arith, t .same, number-other i q))
+      (λ (r : j ≡ p → ⊥).
+      omega (arith, number-other i q, old s' i j (record { low = t .low; less = t .less; high = t .high; same = sym (number-other i q) ∙ t .same ∙ number-other j r })))
+      (cases-eq j p))
       (cases-eq i p)
 
   pub new-frame : (ps : List Process) → frame-of (set rows p (record { number = g + 1; kind = k })) (wiped slots (8 * p) 8) (set given s (g + 1)) ps ≡ made s k (frame-of rows slots given ps)
   unfolding new-row new-rows on-object on-living on-given
   new-frame ps = λ j. record {
-      object = fun-ext {f = object-of new-rows new-slots} {g = λ m. cond (same-name m (record { share = s; number = getD given s 0 + 1 })) (fresh k) (object-of rows slots m)}
+    object = fun-ext {f = object-of new-rows new-slots} {g = λ m. cond (same-name m (record { share = s; number = getD given s 0 + 1 })) (fresh k) (object-of rows slots m)}
         (λ m. new-object m ∙ ap (λ (x : ℕ). cond (same-name m (record { share = s; number = x + 1 })) (fresh k) (object-of rows slots m)) is-g) j;
-      living = fun-ext {f = living-of new-rows} {g = λ t. cond (eqb t s) (living-of rows t + 1) (living-of rows t)} new-living j;
-      given = fun-ext {f = λ s'. getD (set given s (g + 1)) s' 0} {g = λ t. cond (eqb t s) (getD given t 0 + 1) (getD given t 0)} new-given j;
-      process = process-of ps }
+    living = fun-ext {f = living-of new-rows} {g = λ t. cond (eqb t s) (living-of rows t + 1) (living-of rows t)} new-living j;
+    given = fun-ext {f = λ s'. getD (set given s (g + 1)) s' 0} {g = λ t. cond (eqb t s) (getD given t 0 + 1) (getD given t 0)} new-given j;
+    process = process-of ps;
+  }

@@ -51,12 +51,12 @@ pub own-none : (ps : List Process) (p i at d : ℕ) → d ≡ depth-of ps p → 
 own-none ps p i at d e (inl z) = sym (ap (top-slot i at) (spaces-are ps p ∙ ap (newest (getD ps (p - 1) nobody .spaces)) (sym e ∙ z)))
 own-none ps p i at d e (inr h) =
     sym (ap (top-slot i at) (spaces-are ps p ∙ newest-top (getD ps (p - 1) nobody .spaces) (depth-of ps p) (omega arith))
-      ∙ rw (le-ltb i 12 (h .1)))
+    ∙ rw (le-ltb i 12 (h .1)))
 
 pub own-some : (ps : List Process) (p i at d : ℕ) → d ≡ depth-of ps p → (d ≡ 0 → ⊥) → i < 12 → Ok (getD (getD (getD ps (p - 1) nobody .spaces) (d - 1) bare-space .slots) i Empty) ≡ top-slot i at (spaces-of (process-of ps p))
 own-some ps p i at d e h s =
     sym (ap (top-slot i at) (spaces-are ps p ∙ newest-top (getD ps (p - 1) nobody .spaces) (depth-of ps p) (omega arith))
-      ∙ rw (lt-ltb i 12 s, e))
+    ∙ rw (lt-ltb i 12 s, e))
 
 -- the slots of the current name space
 pub top-none : (ps : List Process) (p d : ℕ) → d ≡ depth-of ps p → d ≡ 0 → [] ≡ top-slots (spaces-of (process-of ps p))
@@ -96,7 +96,7 @@ newest-put xs zero i v h b s = absurd (omega arith)
 newest-put xs (suc d) i v h b s =
     let e : suc d - 1 ≡ d = omega arith in
     subst (λ (k : ℕ). newest (set xs k (with-slots (getD xs k bare-space) (set (getD xs k bare-space .slots) i v))) (suc d) ≡ put-top i v (newest xs (suc d))) (sym e)
-      (newest-put-suc xs d i v (with-slots (getD xs d bare-space) (set (getD xs d bare-space .slots) i v)) refl b s)
+    (newest-put-suc xs d i v (with-slots (getD xs d bare-space) (set (getD xs d bare-space .slots) i v)) refl b s)
 
 abbrev pub with-spaces : Process → List Space → Process
 with-spaces p l = record { state = p .state; depth = p .depth; spaces = l }
@@ -121,31 +121,32 @@ module _ (ps : List Process) (p i d : ℕ) (v : Slot) (e : d ≡ depth-of ps p) 
   here =
       let f : getD (set ps (p - 1) new-process) (p - 1) nobody ≡ new-process = getD-set-same ps (p - 1) new-process nobody (omega arith) in
       rw (in-range, f) (task-with (getD ps (p - 1) nobody .state) (getD ps (p - 1) nobody) (new-process .spaces) i v
-        (subst (λ (k : ℕ). newest (new-process .spaces) k ≡ put-top i v (newest (getD ps (p - 1) nobody .spaces) k)) depth-is
-          (newest-put (getD ps (p - 1) nobody .spaces) d i v pos deep small)))
+      (subst (λ (k : ℕ). newest (new-process .spaces) k ≡ put-top i v (newest (getD ps (p - 1) nobody .spaces) k)) depth-is
+      (newest-put (getD ps (p - 1) nobody .spaces) d i v pos deep small)))
 
   there : (q : ℕ) → (q ≡ p → ⊥) → process-of (set ps (p - 1) new-process) q ≡ process-of ps q
   unfolding process-of
   there q ne =
       ⊎-elim
       (λ t. let r = and-parts (leb 1 q) (leb q 8) t in
-        let a = leb-true 1 q (r .0) in
-        let w : q - 1 ≢ p - 1 = omega (arith, within .0) in
-        rw (t, getD-set-other ps (p - 1) (q - 1) new-process nobody w))
+      let a = leb-true 1 q (r .0) in
+      let w : q - 1 ≢ p - 1 = omega (arith, within .0) in
+      rw (t, getD-set-other ps (p - 1) (q - 1) new-process nobody w))
       (λ t. rw t)
       (cases-bool (leb 1 q && leb q 8))
 
   pub own-put : (rows : List Row) (slots : List Slot) (given : List ℕ) → frame-of rows slots given (set ps (p - 1) (with-spaces (getD ps (p - 1) nobody) (set (getD ps (p - 1) nobody .spaces) (d - 1) (with-slots (getD (getD ps (p - 1) nobody .spaces) (d - 1) bare-space) (set (getD (getD ps (p - 1) nobody .spaces) (d - 1) bare-space .slots) i v))))) ≡ put-own p i v (frame-of rows slots given ps)
   unfolding new-process on-process put-own
   own-put rows slots given = λ j. record {
-      object = object-of rows slots;
-      living = living-of rows;
-      given = λ s. getD given s 0;
-      process = fun-ext {f = process-of (set ps (p - 1) new-process)} {g = λ q. cond (eqb q p) (lifted (respaced (put-top i v)) (process-of ps q)) (process-of ps q)} (λ q.
+    object = object-of rows slots;
+    living = living-of rows;
+    given = λ s. getD given s 0;
+    process = fun-ext {f = process-of (set ps (p - 1) new-process)} {g = λ q. cond (eqb q p) (lifted (respaced (put-top i v)) (process-of ps q)) (process-of ps q)} (λ q.
         ⊎-elim
         (λ (t : q ≡ p). rw (eq-eqb q p t) (subst (λ (x : ℕ). process-of (set ps (p - 1) new-process) x ≡ lifted (respaced (put-top i v)) (process-of ps x)) (sym t) here))
         (λ (t : q ≡ p → ⊥). rw (ne-eqb q p t) (there q t))
-        (cases-eq q p)) j }
+        (cases-eq q p)) j;
+  }
 
 -- where there is no such slot, nothing is put
 top-same : (i : ℕ) (v : Slot) (xs : List Space) (d : ℕ) → (d ≡ 0) ⊎ (12 ≤ i) → put-top i v (newest xs d) ≡ newest xs d
@@ -169,11 +170,12 @@ same-here ps p i v h =
 pub own-put-none : (rows : List Row) (slots : List Slot) (given : List ℕ) (ps : List Process) (p i d : ℕ) (v : Slot) → d ≡ depth-of ps p → (d ≤ 0) ⊎ (12 ≤ i) → frame-of rows slots given ps ≡ put-own p i v (frame-of rows slots given ps)
 unfolding on-process put-own
 own-put-none rows slots given ps p i d v e h = λ j. record {
-      object = object-of rows slots;
-      living = living-of rows;
-      given = λ s. getD given s 0;
-      process = fun-ext {f = process-of ps} {g = λ q. cond (eqb q p) (lifted (respaced (put-top i v)) (process-of ps q)) (process-of ps q)} (λ q.
-        ⊎-elim
-        (λ (t : q ≡ p). rw (eq-eqb q p t) (subst (λ (x : ℕ). process-of ps x ≡ lifted (respaced (put-top i v)) (process-of ps x)) (sym t) (same-here ps p i v (⊎-elim (λ z. inl (omega arith)) inr h))))
-        (λ (t : q ≡ p → ⊥). rw (ne-eqb q p t))
-        (cases-eq q p)) j }
+  object = object-of rows slots;
+  living = living-of rows;
+  given = λ s. getD given s 0;
+  process = fun-ext {f = process-of ps} {g = λ q. cond (eqb q p) (lifted (respaced (put-top i v)) (process-of ps q)) (process-of ps q)} (λ q.
+      ⊎-elim
+      (λ (t : q ≡ p). rw (eq-eqb q p t) (subst (λ (x : ℕ). process-of ps x ≡ lifted (respaced (put-top i v)) (process-of ps x)) (sym t) (same-here ps p i v (⊎-elim (λ z. inl (omega arith)) inr h))))
+      (λ (t : q ≡ p → ⊥). rw (ne-eqb q p t))
+      (cases-eq q p)) j;
+}

@@ -1,20 +1,27 @@
 // The object layer: what is read from the tables and written to them, by name.
 ghost use mathlib.Core.Path.{_≡_};
-ghost use Prim.Native.Nat.{ℕ, _+_, _-_, _*_, _<_, _≤_};
-ghost use lib.ListN.{length, getD, set};
+ghost use Prim.Native.Nat.{_-_, _*_, _<_, _≤_};
+ghost use lib.ListN.{length, replicate};
+ghost use Rattle.model.specs.declared.kinds.Slot.the-variants.{Empty};
 ghost use Rattle.std.specs.declared.result.Result.the-variants.{Ok};
-ghost use Rattle.model.specs.Plan.{slot-of, own-slot, runs, lives, last-filled, length-of, places};
-ghost use Rattle.model.specs.Kalls.{put-own, put-listed};
+ghost use Rattle.std.specs.Vec.{made as Made};
+ghost use Rattle.model.specs.Plan.{slot-of, own-slot, slot-at, runs, vacant, lives, last-filled, length-of, places};
+ghost use Rattle.model.specs.Kalls.{put-own, put-listed, put-in};
+ghost use Rattle.model.specs.SetUp.{bare, unenrolled, enrol, enrolled, owned, living, Sets};
 ghost use Rattle.scene.specs.Places.{base-of, seek, place-of, Within};
-ghost use Rattle.scene.specs.Abstract.{frame, homes, depth-of, wiped, Makes};
-
+ghost use Rattle.scene.specs.Abstract.{frame, homes, process-of, living-of, depth-of, wiped, Makes};
 use crate::kinds::Row;
 use crate::kinds::Spot;
 use crate::kinds::State;
 use crate::limits::room;
+use crate::tables::FREE;
+use crate::tables::NEWCOMER;
+use crate::tables::NOBODY;
 use crate::tables::Tables;
 use model::kinds::EMPTY;
+use model::kinds::Holder;
 use model::kinds::Name;
+use model::kinds::Owner;
 use model::kinds::Slot;
 use model::signals::Fault;
 use model::signals::Signal;
@@ -22,7 +29,11 @@ use model::signals::Signal;
 fn base(share: u32) -> usize
     ensures { λ r. ⌜ r ≡ base-of share ⌝ }
 {
-    if share == 0 { 0 } else { 16 + 16 * share as usize }
+    if share == 0 {
+        0
+    } else {
+        16 + 16 * share as usize
+    }
 }
 
 fn size(share: u32) -> usize
@@ -70,6 +81,18 @@ fn space_length(slots: &[Slot; 12]) -> usize
 }
 
 impl Tables {
+    pub(crate) fn new() -> Tables
+        ensures scene { λ r. ⌜ frame r ≡ bare ⌝ }
+        ensures slots { λ r. ⌜ r .slots ≡ replicate 1280 Empty ⌝ }
+    {
+        Tables {
+            objects: [FREE; 160],
+            slots: [EMPTY; 1280],
+            given: [0; 9],
+            processes: [NOBODY; 8],
+        }
+    }
+
     // The first place of a share whose row has the number.
     fn scan(&self, share: u32, number: u32) -> Option<usize>
         ensures value { λ r. ⌜ r ≡ seek (now (self .entry) .objects) number (places share) (base-of share) ⌝ }
@@ -132,8 +155,14 @@ impl Tables {
         }
         wipe(&mut self.slots, place);
         self.given[share as usize] = number + 1;
-        self.objects[place] = Row { number: number + 1, kind };
-        Ok(Spot { place: place + 1, number: number + 1 })
+        self.objects[place] = Row {
+            number: number + 1,
+            kind,
+        };
+        Ok(Spot {
+            place: place + 1,
+            number: number + 1,
+        })
     }
 
     pub fn running(&self, process: u32) -> Result<u32, Fault>
@@ -172,7 +201,11 @@ impl Tables {
         if depth == 0 || index >= 12 {
             return Err(Fault::new(Signal::Sindex, at));
         }
-        Ok(self.processes[process as usize - 1].spaces[depth - 1].slots[index])
+        Ok(
+            self.processes[process as usize - 1]
+                .spaces[depth - 1]
+                .slots[index],
+        )
     }
 
     pub fn put_own(&mut self, process: u32, index: usize, slot: Slot)
@@ -181,7 +214,9 @@ impl Tables {
     {
         let depth = self.depth(process);
         if depth > 0 && index < 12 {
-            self.processes[process as usize - 1].spaces[depth - 1].slots[index] = slot;
+            self.processes[process as usize - 1]
+                .spaces[depth - 1]
+                .slots[index] = slot;
         }
     }
 
@@ -204,5 +239,105 @@ impl Tables {
             Some(_) => true,
             None => false,
         }
+    }
+
+    fn reach(&self, process: u32, holder: Holder, index: u32, at: u8) -> Result<Slot, Fault>
+        ensures { λ r. ⌜ r ≡ slot-at (frame (now (self .entry))) process holder index at ⌝ }
+    {
+        if index == 0 {
+            return Err(Fault::new(Signal::Sindex, at));
+        }
+        match holder {
+            Holder::Mine => self.own(process, index as usize - 1, at),
+            Holder::Listed(name) => self.slot(name, index as usize - 1, at),
+        }
+    }
+
+    // An empty slot, by an index from 1.
+    pub fn vacant(&self, process: u32, holder: Holder, index: u32, at: u8) -> Result<u32, Fault>
+        ensures { λ r. ⌜ r ≡ vacant process holder index at (frame (now (self .entry))) ⌝ }
+    {
+        match self.reach(process, holder, index, at)? {
+            Slot::Empty => Ok(0),
+            _ => Err(Fault::new(Signal::Sfull, at)),
+        }
+    }
+
+    // A slot is put, by an index from 1; there is none at index 0 and past the end.
+    pub fn put_in(&mut self, process: u32, holder: Holder, index: u32, slot: Slot)
+        ensures after { λ _. ⌜ frame (now (self .exit)) ≡ put-in process holder (index - 1) slot (frame (now (self .entry))) ⌝ }
+        ensures homes { λ _. ⌜ homes (now (self .exit)) ≡ homes (now (self .entry)) ⌝ }
+    {
+        let i = if index == 0 { 0 } else { index as usize - 1 };
+        match holder {
+            Holder::Mine => self.put_own(process, i, slot),
+            Holder::Listed(name) => self.put(name, i, slot),
+        }
+    }
+
+    fn unenrolled(&self) -> Result<u32, Fault>
+        ensures value { λ r. ⌜ r ≡ unenrolled (process-of (now (self .entry) .processes)) 8 1 ⌝ }
+        ensures within { λ r. ⌜ Made r (λ p. (1 ≤ p) × (p ≤ 8)) ⌝ }
+    {
+        for process in 1..9u32 {
+            if let Err(_) = self.enrolled(process) {
+                return Ok(process);
+            }
+        }
+        Err(Fault::new(Signal::Sroom, 0))
+    }
+
+    pub(crate) fn enrol(&mut self) -> Result<u32, Fault>
+        ensures { λ r. ⌜ Sets r (frame (now (self .entry))) (homes (now (self .entry))) (frame (now (self .exit))) (homes (now (self .exit))) (enrol (frame (now (self .entry)))) ⌝ }
+    {
+        let process = self.unenrolled()?;
+        self.processes[process as usize - 1] = NEWCOMER;
+        Ok(process)
+    }
+
+    fn enrolled(&self, process: u32) -> Result<u32, Fault>
+        ensures { λ r. ⌜ r ≡ enrolled (process-of (now (self .entry) .processes) process) ⌝ }
+    {
+        if process == 0 || process > 8 {
+            return Err(Fault::new(Signal::Sproc, 0));
+        }
+        match self.processes[process as usize - 1].state {
+            State::Absent => Err(Fault::new(Signal::Sproc, 0)),
+            _ => Ok(0),
+        }
+    }
+
+    pub(crate) fn alive(&self, name: Name) -> Result<u32, Fault>
+        ensures { λ r. ⌜ r ≡ living name (frame (now (self .entry))) ⌝ }
+    {
+        if self.is_living(name) {
+            Ok(0)
+        } else {
+            Err(Fault::new(Signal::Sgone, 0))
+        }
+    }
+
+    pub(crate) fn owned(&self, owner: Owner) -> Result<u32, Fault>
+        ensures { λ r. ⌜ r ≡ owned owner (frame (now (self .entry))) ⌝ }
+    {
+        match owner {
+            Owner::Process(process) => self.enrolled(process),
+            Owner::Object(number) => self.alive(Name { share: 0, number }),
+        }
+    }
+
+    // How many objects of a share live.
+    pub(crate) fn living(&self, share: u32) -> u32
+        ensures { λ r. ⌜ r ≡ frame (now (self .entry)) .living share ⌝ }
+    {
+        let low = base(share);
+        let high = low + size(share);
+        let mut living = 0;
+        for i in low..high {
+            if self.objects[i].number != 0 {
+                living += 1;
+            }
+        }
+        living
     }
 }

@@ -1,5 +1,4 @@
 ghost use Rattle.scene.specs.Sound.{Bounded, Distinct, Deep, Shelved};
-
 use crate::kinds::Process;
 use crate::kinds::Row;
 use crate::kinds::State;
@@ -7,9 +6,24 @@ use model::kinds::EMPTY;
 use model::kinds::Slot;
 use model::kinds::Space;
 
-const FREE: Row = Row { number: 0, kind: 0 };
-const BARE: Space = Space { slots: [EMPTY; 12], back: 0 };
-const NOBODY: Process = Process { state: State::Absent, depth: 0, spaces: [BARE; 6] };
+pub(crate) const FREE: Row = Row { number: 0, kind: 0 };
+
+const BARE: Space = Space {
+    slots: [EMPTY; 12],
+    back: 0,
+};
+
+pub(crate) const NEWCOMER: Process = Process {
+    state: State::Running,
+    depth: 1,
+    spaces: [BARE; 6],
+};
+
+pub(crate) const NOBODY: Process = Process {
+    state: State::Absent,
+    depth: 0,
+    spaces: [BARE; 6],
+};
 
 // Share 0 has the places 0 to 31, share s the 16 from 16 + 16 s on; the list of the
 // object at a place is the eight slots from eight times the place on.
@@ -23,10 +37,4 @@ pub struct Tables {
     ghost distinct: { Distinct objects },
     ghost deep: { Deep processes },
     ghost shelved: { Shelved processes },
-}
-
-impl Tables {
-    pub(crate) fn new() -> Tables {
-        Tables { objects: [FREE; 160], slots: [EMPTY; 1280], given: [0; 9], processes: [NOBODY; 8] }
-    }
 }

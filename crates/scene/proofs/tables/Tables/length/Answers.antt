@@ -16,4 +16,5 @@ unfolding length-of
 returns c =
     record {
       value = ap Ok (c .space-length .ensures .value) ∙ ap (λ l. Ok (last-filled l)) (top-some _ _ _ (c .depth-depth .ensures .value) (c .if-depth-eq0 .left));
-      bound = c .space-length .ensures .bound }
+      bound = c .space-length .ensures .bound;
+    }

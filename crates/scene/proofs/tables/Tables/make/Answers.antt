@@ -40,10 +40,13 @@ ghost-self c =
     let wide : length (c .args .self .now .given) ≡ 9 = search needs in
     let big : length (c .args .self .now .slots) ≡ 1280 = search needs in
     let t = c .args .self .now in
-    let free = c .in-Some .ensures tt .value in
-    (new-bounded (t .objects) (t .slots) (t .given) (c .args .share) (c .in-Some .place) (c .args .kind) _ refl free (t .bounded) long wide big,
-     (new-distinct (t .objects) (t .slots) (t .given) (c .args .share) (c .in-Some .place) (c .args .kind) _ refl free (t .bounded) long wide big (t .distinct),
-     (t .deep, (t .shelved, tt))))
+    let free = c .in-Some .ensures tt .value in (
+      new-bounded (t .objects) (t .slots) (t .given) (c .args .share) (c .in-Some .place) (c .args .kind) _ refl free (t .bounded) long wide big,
+      (
+        new-distinct (t .objects) (t .slots) (t .given) (c .args .share) (c .in-Some .place) (c .args .kind) _ refl free (t .bounded) long wide big (t .distinct),
+        (t .deep, (t .shelved, tt)),
+      ),
+    )
 
 pub returns : need.returns
 unfolding living-of new-number
@@ -52,10 +55,12 @@ returns c =
     let wide : length (c .args .self .now .given) ≡ 9 = search needs in
     let big : length (c .args .self .now .slots) ≡ 1280 = search needs in
     let t = c .args .self .now in
-    let free = c .in-Some .ensures tt .value in
-    (rw (lt-leb _ _ (some-left _ _ _ _ free), lt-leb _ _ (c .if-number-ge60000 .left)),
-     ap (λ (l : List Slot). frame-of (set (t .objects) (c .in-Some .place) (record { number = getD (t .given) (c .args .share) 0 + 1; kind = c .args .kind })) l (set (t .given) (c .args .share) (getD (t .given) (c .args .share) 0 + 1)) (t .processes)) (c .wipe .ensures)
-       ∙ new-frame (t .objects) (t .slots) (t .given) (c .args .share) (c .in-Some .place) (c .args .kind) _ refl free (t .bounded) long wide big (t .processes),
-     new-homes (t .objects) (t .slots) (t .given) (c .args .share) (c .in-Some .place) (c .args .kind) _ refl free (t .bounded) long wide big,
-     unused (t .objects) (t .slots) (t .given) (c .args .share) (c .in-Some .place) (c .args .kind) _ refl free (t .bounded) long wide big,
-     omega arith, omega (arith, c .in-Some .ensures tt .within))
+    let free = c .in-Some .ensures tt .value in (
+      rw (lt-leb _ _ (some-left _ _ _ _ free), lt-leb _ _ (c .if-number-ge60000 .left)),
+      ap (λ (l : List Slot). frame-of (set (t .objects) (c .in-Some .place) (record { number = getD (t .given) (c .args .share) 0 + 1; kind = c .args .kind })) l (set (t .given) (c .args .share) (getD (t .given) (c .args .share) 0 + 1)) (t .processes)) (c .wipe .ensures)
+          ∙ new-frame (t .objects) (t .slots) (t .given) (c .args .share) (c .in-Some .place) (c .args .kind) _ refl free (t .bounded) long wide big (t .processes),
+      new-homes (t .objects) (t .slots) (t .given) (c .args .share) (c .in-Some .place) (c .args .kind) _ refl free (t .bounded) long wide big,
+      unused (t .objects) (t .slots) (t .given) (c .args .share) (c .in-Some .place) (c .args .kind) _ refl free (t .bounded) long wide big,
+      omega arith,
+      omega (arith, c .in-Some .ensures tt .within),
+    )
