@@ -1,5 +1,5 @@
 -- A rule that is given on valid codes, on every code: an invalid one is read as 0, wherever it stands.
-use mathlib.Core.Bool.{Bool, cond}
+use mathlib.Core.Bool.{cond}
 use Prim.Native.Nat.{ℕ}
 use Rattle.model.specs.Model.{Rule}
 
