@@ -91,28 +91,46 @@ abbrev pub apply-all : {E : Type 0} → ℕ → List (Edit E) → World E → Wo
 apply-all p [] w = w
 apply-all p (e ∷ es) w = apply-all p es (apply p e w)
 
--- what a kall comes to: its value, the buffer where it changes, and the edits to be made
+-- what a kall comes to: its value, and the edits to be made
+pub record Plain (E : Type 0) : Type 0 where
+  pub value : ℤ
+  pub edits : List (Edit E)
+
+-- and the buffer, where it changes
 pub record Outcome (E : Type 0) : Type 0 where
   pub value : ℤ
   pub buffer : Option (List E)
   pub edits : List (Edit E)
 
 module _ {E : Type 0} (p : ℕ) where
-  -- a kall that leaves the buffer alone
-  abbrev pub done : ℤ → List (Edit E) → Plan Frame (Outcome E)
-  done v es = λ _. Ok (record { value = v; buffer = None; edits = es })
+  abbrev pub done : ℤ → List (Edit E) → Plan Frame (Plain E)
+  done v es = λ _. Ok (record { value = v; edits = es })
 
   -- the kalls
-  abbrev pub kall-lenth : Plan Frame (Outcome E)
+  abbrev pub kall-lenth : Plan Frame (Plain E)
   kall-lenth = do
     runs p
     n ← length-of p
     done (pos n) []
 
-abbrev pub plan : {E : Type 0} → Rule → ℕ → Kall → List E → Plan (World E) (Outcome E)
-plan rule p Lenth xs w = kall-lenth p (w .frame)
+-- a kall that leaves the buffer alone
+abbrev pub plain : {E : Type 0} → Result (Plain E) Fault → Result (Outcome E) Fault
+plain (Ok o) = Ok (record { value = o .value; buffer = None; edits = o .edits })
+plain (Err e) = Err e
 
--- how a kall ends: a fault changes neither scene nor buffer
+abbrev pub plan : {E : Type 0} → Rule → ℕ → Kall → List E → Plan (World E) (Outcome E)
+plan rule p Lenth xs w = plain (kall-lenth p (w .frame))
+
+-- how a kall ends that leaves the buffer alone: a fault changes nothing
+pub record Ending (E : Type 0) : Type 0 where
+  pub answer : Result ℤ Fault
+  pub after : World E
+
+abbrev pub ended : {E : Type 0} → ℕ → World E → Result (Plain E) Fault → Ending E
+ended p w (Ok o) = record { answer = Ok (o .value); after = apply-all p (o .edits) w }
+ended p w (Err e) = record { answer = Err e; after = w }
+
+-- how any kall ends: a fault changes neither scene nor buffer
 abbrev pub answer-of : {E : Type 0} → Result (Outcome E) Fault → Result ℤ Fault
 answer-of (Ok o) = Ok (o .value)
 answer-of (Err e) = Err e
