@@ -1,0 +1,4 @@
+pub mod Shortness
+pub mod Answering
+pub mod Laying
+pub mod Rowing

@@ -9,7 +9,7 @@ use Rattle.std.specs.declared.option.Option.{Option}
 use Rattle.std.specs.declared.option.Option.the-variants.{Some, None}
 use Rattle.std.specs.declared.result.Result.{Result}
 use Rattle.std.specs.declared.result.Result.the-variants.{Ok, Err}
-use Rattle.std.specs.Runs.{nth}
+use Rattle.std.specs.shelf.Maps.{nth}
 use Rattle.model.specs.declared.signals.Signal.the-variants.{Slim}
 use Rattle.model.specs.declared.signals.Fault.{Fault}
 use Rattle.model.specs.Signals.{fault}
@@ -21,12 +21,20 @@ is-place p = leb 1 p && leb p 160
 abbrev pub greatest : ℕ
 greatest = 64
 
+-- how many elements a shelf can hold
+abbrev pub most : ℕ
+most = 10240
+
 abbrev pub refusal : Fault
 refusal = fault Slim 0
 
 -- x if the test holds, else the refusal
 abbrev pub if-so : {A : Type 0} → Bool → A → Result A Fault
 if-so b x = cond b (Ok x) (Err refusal)
+
+-- cells that suffice for a shelf
+abbrev pub counted : {E : Type 0} → List E → Result (List E) Fault
+counted cells = if-so (leb most (length cells)) cells
 
 -- i is an index of the sequence
 abbrev pub is-index : {E : Type 0} → ℕ → List E → Bool

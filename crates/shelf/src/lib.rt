@@ -1,1 +1,4 @@
+pub mod cells;
+pub(crate) mod lengths;
+pub mod rows;
 pub mod traits;

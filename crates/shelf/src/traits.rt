@@ -1,9 +1,9 @@
 // What a shelf is: a sequence of at most 64 elements for each place from 1 to 160.
 ghost use denote.Ref.{now};
-ghost use lib.ListN.{length};
 ghost use mathlib.Core.List.{List};
 ghost use mathlib.Core.Path.{_≡_};
 ghost use Prim.Native.Nat.{ℕ, _≤_};
+ghost use Rattle.std.specs.Vec.{made};
 ghost use Rattle.shelf.specs.Places.{greatest, «length-at», «element-at», replaced, appended, cleared, Writes};
 use model::signals::Fault;
 
@@ -13,11 +13,10 @@ pub trait ReadableShelf {
 
     ghost holds: { Self → ℕ → List Self·Element };
 
-    law short: { (s : Self) (p : ℕ) → length (holds s p) ≤ greatest };
-
     fn length(&mut self, place: usize) -> Result<usize, Fault>
         ensures same { λ _. ⌜ holds (now (self .exit)) ≡ holds (now (self .entry)) ⌝ }
-        ensures answer { λ r. ⌜ r ≡ «length-at» place (holds (now (self .entry))) ⌝ };
+        ensures answer { λ r. ⌜ r ≡ «length-at» place (holds (now (self .entry))) ⌝ }
+        ensures short { λ r. ⌜ made r (λ n. n ≤ greatest) ⌝ };
 
     // Indices are from 1.
     fn element(&mut self, place: usize, index: usize) -> Result<Self::Element, Fault>
