@@ -8,7 +8,7 @@ use crate::wrong::WrongFromRefused;
 use model::kinds::Form;
 use model::kinds::Kall;
 use model::kinds::Request;
-use scene::setup::Owner;
+use model::kinds::Owner;
 use std::alloc::Global;
 
 #[derive(Drop)]

@@ -8,7 +8,7 @@ use rights::bits::BitsRule;
 use rights::rule::RightsRule;
 use rights::steps::Steps;
 use rights::steps::StepsRule;
-use run::play::Reckoning;
+use scene::opened::Reckoning;
 use run::play::play;
 use scene::setup::SetUp;
 use shelf::traits::ReadableShelf;

@@ -6,7 +6,7 @@ use model::kinds::Kall;
 use model::kinds::Request;
 use model::signals::Fault;
 use model::signals::Signal;
-use run::play::Reckoning;
+use scene::opened::Reckoning;
 use std::fmt;
 use std::fmt::Display;
 use std::io;

@@ -2,7 +2,7 @@
 use model::kinds::Form;
 use model::kinds::Request;
 use model::signals::Fault;
-use scene::setup::Owner;
+use model::kinds::Owner;
 
 #[derive(Clone, Copy)]
 pub(crate) enum RuleName {
