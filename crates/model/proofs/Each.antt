@@ -1,18 +1,21 @@
 -- Each kall is sound.
 use mathlib.Core.Path.{_≡_, ap}
-use mathlib.Core.List.{List}
-use mathlib.Core.Bool.{Bool}
+use mathlib.Core.List.{List, []}
+use mathlib.Core.Bool.{Bool, true}
 use Prim.Native.Nat.{ℕ}
+use lib.IntN.{pos}
+use lib.ListN.{length}
 use Rattle.std.specs.declared.result.Result.{Result}
 use Rattle.std.specs.declared.result.Result.the-variants.{Ok, Err}
+use Rattle.std.specs.Of.Vec.{vec-items}
 use Rattle.model.specs.declared.kinds.Kall.{Kall}
-use Rattle.model.specs.declared.kinds.Kall.the-variants.{Lenth}
+use Rattle.model.specs.declared.kinds.Kall.the-variants.{Lenth, Clenth, Dlenth, Getdata, Load}
 use Rattle.model.specs.declared.signals.Fault.{Fault}
 use Rattle.model.specs.Model.{World}
-use Rattle.model.specs.Plan.{Plan}
-use Rattle.model.specs.Kalls.{Plain, Outcome, plain, kall-lenth, plan}
-use Rattle.model.proofs.Safe.{Setting, On, Sound, bind, pure}
-use Rattle.model.proofs.Views.{sound-runs, sound-length}
+use Rattle.model.specs.Plan.{Plan, after}
+use Rattle.model.specs.Kalls.{Plain, Outcome, plain, block, copied, read-at, kall-lenth, kall-clenth, kall-dlenth, kall-getdata, kall-load, plan}
+use Rattle.model.proofs.Safe.{Setting, On, Sound, bind, pure, weaken}
+use Rattle.model.proofs.Views.{here, kept-by, fit-loaded, sound-runs, sound-enter, sound-length, sound-list-length, sound-elements, sound-object-at, sound-held, sound-vacant, sound-walk}
 use Rattle.model.proofs.Edits.{Admits-all}
 
 module _ {E : Type 0} (S : Setting) (b : Bool) (p : ℕ) (c : S .cast p ≡ b) where
@@ -30,11 +33,49 @@ module _ {E : Type 0} (S : Setting) (b : Bool) (p : ℕ) (c : S .cast p ≡ b) w
       go (Ok o) q = q
       go (Err e) q = tt
 
-  sound-lenth : Sound {E = E} S b (λ w. kall-lenth p (w .frame)) Good-plain
+  sound-read-at : (k : ℕ) (path : List ℕ) → Sound {E = E} S b (λ w. read-at (S .rule) p k path (w .frame)) (λ x. b ≡ true → S .Kept (x .name))
+  sound-read-at k path =
+      bind (sound-enter p c _ _) λ _ _.
+      bind (sound-walk p c _ _ path) λ t st.
+      weaken (sound-object-at p c _ _ _ (st .place)) λ x h. kept-by b h
+
+  sound-lenth : Sound {E = E} S b (λ w. kall-lenth (S .rule) p (w .frame)) Good-plain
   sound-lenth =
       bind (sound-runs p c) λ _ _.
       bind (sound-length p c) λ n _.
       pure (Ok _) tt
 
+  sound-clenth : (path : List ℕ) → Sound {E = E} S b (λ w. kall-clenth (S .rule) p path (w .frame)) Good-plain
+  sound-clenth path =
+      bind (sound-read-at _ path) λ x k.
+      bind (sound-list-length (x .name) k) λ n _.
+      pure (Ok _) tt
+
+  sound-dlenth : (path : List ℕ) → Sound {E = E} S b (kall-dlenth (S .rule) p path) Good-plain
+  sound-dlenth path =
+      bind (sound-read-at _ path) λ x k.
+      sound-elements (x .name) k (λ xs. Ok (record { value = pos (length xs); edits = [] })) (λ xs. tt)
+
+  sound-getdata : (path : List ℕ) (disp knt : ℕ) (xs : List E) → Sound {E = E} S b (kall-getdata (S .rule) p path disp knt xs) Good
+  sound-getdata path disp knt xs =
+      bind (sound-read-at _ path) λ x k.
+      sound-elements (x .name) k (λ part. after (block disp knt (length xs) part) (λ ys. Ok (copied xs ys))) (λ part. harmless (block disp knt (length xs) part))
+    where
+      harmless : (r : Result (List E) Fault) → On Good (after r (λ ys. Ok (copied xs ys)))
+      harmless (Ok ys) = tt
+      harmless (Err e) = tt
+
+  sound-load : (new : ℕ) (path : List ℕ) → Sound {E = E} S b (λ w. kall-load (S .rule) p new path (w .frame)) Good-plain
+  sound-load new path =
+      bind (sound-enter p c _ _) λ _ _.
+      bind (sound-vacant p c _ _ here) λ _ _.
+      bind (sound-walk p c _ _ path) λ t k.
+      bind (sound-held p c _ _ _ (k .place)) λ s f.
+      pure (Ok _) ((tt, fit-loaded S b (t .clear) s f), tt)
+
   pub sound-plan : (k : Kall) (xs : List E) → Sound {E = E} S b (plan (S .rule) p k xs) Good
   sound-plan Lenth xs = plainly sound-lenth
+  sound-plan (Clenth path) xs = plainly (sound-clenth (vec-items path))
+  sound-plan (Dlenth path) xs = plainly (sound-dlenth (vec-items path))
+  sound-plan (Getdata path disp knt) xs = sound-getdata (vec-items path) disp knt xs
+  sound-plan (Load new path) xs = plainly (sound-load new (vec-items path))

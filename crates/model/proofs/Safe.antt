@@ -118,3 +118,15 @@ module _ {E A B : Type 0} {S : Setting} {b : Bool} where
 module _ {E : Type 0} {S : Setting} {b : Bool} where
   pub pure : {A : Type 0} {Q : A → Type 0} (r : Result A Fault) → On Q r → Sound {E = E} S b (λ _. r) Q
   pure r q = record { good = λ w i. q; same = λ t v w i j a. refl }
+
+  pub branch : {A : Type 0} {m k : Plan (World E) A} {Q : A → Type 0} (c : Bool) → Sound S b m Q → Sound S b k Q → Sound S b (λ w. cond c (m w) (k w)) Q
+  branch true h f = h
+  branch false h f = f
+
+  -- less is known of the answer
+  pub weaken : {A : Type 0} {m : Plan (World E) A} {Q R : A → Type 0} → Sound S b m Q → ((a : A) → Q a → R a) → Sound S b m R
+  weaken {A} {m} {Q} {R} h f = record { good = λ w i. go (m w) (h .good w i); same = h .same }
+    where
+      go : (r : Result A Fault) → On Q r → On R r
+      go (Ok a) q = f a q
+      go (Err e) q = tt

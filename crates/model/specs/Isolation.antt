@@ -11,7 +11,7 @@ use Rattle.model.specs.declared.kinds.Cap.{Cap}
 use Rattle.model.specs.declared.kinds.Slot.{Slot}
 use Rattle.model.specs.declared.kinds.Slot.the-variants.{Capability}
 use Rattle.model.specs.declared.kinds.Space.{Space}
-use Rattle.model.specs.Model.{Frame, World, Rule}
+use Rattle.model.specs.Model.{Frame, World, Rule, mdfyrts, ucnfrts}
 use Rattle.model.specs.Kalls.{Asked, Event, run}
 
 -- F of what is there, if anything is
@@ -51,7 +51,7 @@ pub data Sight (cast : ℕ → Bool) (w : Frame) : Name → Type 0 where
 
 -- rights that neither modify nor unconfine
 abbrev pub Look : Rule → ℕ → Type 0
-Look rule r = (rule .grants r 9 ≡ false) × (rule .grants r 10 ≡ false)
+Look rule r = (rule .grants r mdfyrts ≡ false) × (rule .grants r ucnfrts ≡ false)
 
 -- every capability out of the cast's sight for an object in its sight is look-only
 pub record Looked-at (rule : Rule) (cast : ℕ → Bool) (w : Frame) : Type 0 where

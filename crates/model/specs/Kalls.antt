@@ -1,25 +1,29 @@
 -- How edits change the scene, the kalls, and runs of requests.
-use mathlib.Core.List.{List, [], _∷_}
+use mathlib.Core.List.{List, [], _∷_, _++_}
 use mathlib.Core.Bool.{Bool, cond, _&&_}
 use Prim.Native.Nat.{ℕ, _+_, _-_}
-use lib.Dec.{eqb, ltb}
+use lib.Dec.{eqb, leb, ltb}
 use lib.IntN.{ℤ, pos}
-use lib.ListN.{set, replicate}
+use lib.ListN.{length, set, take, drop, replicate}
 use Rattle.std.specs.declared.option.Option.{Option}
 use Rattle.std.specs.declared.option.Option.the-variants.{Some, None}
 use Rattle.std.specs.declared.result.Result.{Result}
 use Rattle.std.specs.declared.result.Result.the-variants.{Ok, Err}
+use Rattle.std.specs.Of.Vec.{vec-items}
 use Rattle.model.specs.declared.kinds.Name.{Name}
+use Rattle.model.specs.declared.kinds.Cap.{Cap}
 use Rattle.model.specs.declared.kinds.Slot.{Slot}
-use Rattle.model.specs.declared.kinds.Slot.the-variants.{Empty}
+use Rattle.model.specs.declared.kinds.Slot.the-variants.{Empty, Capability, Template}
 use Rattle.model.specs.declared.kinds.Space.{Space}
 use Rattle.model.specs.declared.kinds.Holder.{Holder}
 use Rattle.model.specs.declared.kinds.Holder.the-variants.{Mine, Listed}
 use Rattle.model.specs.declared.kinds.Kall.{Kall}
-use Rattle.model.specs.declared.kinds.Kall.the-variants.{Lenth}
+use Rattle.model.specs.declared.kinds.Kall.the-variants.{Lenth, Clenth, Dlenth, Getdata, Load}
 use Rattle.model.specs.declared.signals.Fault.{Fault}
-use Rattle.model.specs.Model.{Body, Task, Frame, World, Rule}
-use Rattle.model.specs.Plan.{Plan, after, _>>=_, _>>_, runs, length-of}
+use Rattle.model.specs.declared.signals.Signal.the-variants.{Slim}
+use Rattle.model.specs.Signals.{fault}
+use Rattle.model.specs.Model.{Body, Task, Frame, World, Rule, loadrts, getrts}
+use Rattle.model.specs.Plan.{Plan, after, _>>=_, _>>_, runs, enter, length-of, list-length, vacant, held, object-at, walk}
 
 abbrev pub same-name : Name → Name → Bool
 same-name n m = eqb (n .share) (m .share) && eqb (n .number) (m .number)
@@ -102,7 +106,33 @@ pub record Outcome (E : Type 0) : Type 0 where
   pub buffer : Option (List E)
   pub edits : List (Edit E)
 
-module _ {E : Type 0} (p : ℕ) where
+-- a copy that a walk brought out: stripped unless the way was clear, and delete added
+abbrev pub on-rights : (ℕ → ℕ) → Slot → Slot
+on-rights g Empty = Empty
+on-rights g (Capability c) = Capability (record { name = c .name; rights = g (c .rights) })
+on-rights g (Template t) = Template (record { rights = g (t .rights); wanted = t .wanted; check = t .check; new = t .new })
+
+abbrev pub loaded : Rule → Bool → Slot → Slot
+loaded rule clear s = on-rights (λ r. rule .add-delete (cond clear r (rule .strip r))) s
+
+-- the block of a data part that is asked for, to the part's end at most; `given` is the buffer's length
+abbrev pub block : {E : Type 0} → ℕ → ℕ → ℕ → List E → Result (List E) Fault
+block disp knt given xs =
+    cond ((leb 1 disp && leb disp (length xs)) && (leb 1 knt && leb knt given)) (Ok (take knt (drop (disp - 1) xs))) (Err (fault Slim 0))
+
+-- a block at the buffer's front, the rest of the buffer as it was
+abbrev pub copied : {E : Type 0} → List E → List E → Outcome E
+copied xs ys = record { value = pos (length ys); buffer = Some (ys ++ drop (length ys) xs); edits = [] }
+
+module _ (rule : Rule) (p : ℕ) where
+  -- an object at the end of a reading walk, with the right k
+  abbrev pub read-at : ℕ → List ℕ → Plan Frame Cap
+  read-at k path = do
+    enter rule p None (length path)
+    t ← walk rule (loadrts ∷ []) (loadrts ∷ []) p path
+    object-at rule (k ∷ []) p (t .holder) (t .index) (t .at)
+
+module _ {E : Type 0} (rule : Rule) (p : ℕ) where
   abbrev pub done : ℤ → List (Edit E) → Plan Frame (Plain E)
   done v es = λ _. Ok (record { value = v; edits = es })
 
@@ -113,13 +143,42 @@ module _ {E : Type 0} (p : ℕ) where
     n ← length-of p
     done (pos n) []
 
+  abbrev pub kall-clenth : List ℕ → Plan Frame (Plain E)
+  kall-clenth path = do
+    c ← read-at rule p loadrts path
+    n ← list-length (c .name)
+    done (pos n) []
+
+  abbrev pub kall-dlenth : List ℕ → Plan (World E) (Plain E)
+  kall-dlenth path w =
+      after (read-at rule p getrts path (w .frame)) λ c.
+      Ok (record { value = pos (length (w .elements (c .name))); edits = [] })
+
+  abbrev pub kall-getdata : List ℕ → ℕ → ℕ → List E → Plan (World E) (Outcome E)
+  kall-getdata path disp knt xs w =
+      after (read-at rule p getrts path (w .frame)) λ c.
+      after (block disp knt (length xs) (w .elements (c .name))) λ ys.
+      Ok (copied xs ys)
+
+  abbrev pub kall-load : ℕ → List ℕ → Plan Frame (Plain E)
+  kall-load new path = do
+    enter rule p None (length path)
+    vacant p Mine new 0
+    t ← walk rule (loadrts ∷ []) (loadrts ∷ []) p path
+    s ← held rule [] p (t .holder) (t .index) (t .at)
+    done (pos 0) (put Mine new (loaded rule (t .clear) s) ∷ [])
+
 -- a kall that leaves the buffer alone
 abbrev pub plain : {E : Type 0} → Result (Plain E) Fault → Result (Outcome E) Fault
 plain (Ok o) = Ok (record { value = o .value; buffer = None; edits = o .edits })
 plain (Err e) = Err e
 
 abbrev pub plan : {E : Type 0} → Rule → ℕ → Kall → List E → Plan (World E) (Outcome E)
-plan rule p Lenth xs w = plain (kall-lenth p (w .frame))
+plan rule p Lenth xs w = plain (kall-lenth rule p (w .frame))
+plan rule p (Clenth path) xs w = plain (kall-clenth rule p (vec-items path) (w .frame))
+plan rule p (Dlenth path) xs w = plain (kall-dlenth rule p (vec-items path) w)
+plan rule p (Getdata path disp knt) xs w = kall-getdata rule p (vec-items path) disp knt xs w
+plan rule p (Load new path) xs w = plain (kall-load rule p new (vec-items path) (w .frame))
 
 -- how a kall ends that leaves the buffer alone: a fault changes nothing
 pub record Ending (E : Type 0) : Type 0 where

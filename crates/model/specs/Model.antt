@@ -31,6 +31,46 @@ pub record World (E : Type 0) : Type 0 where
   pub frame : Frame
   pub elements : Name → List E
 
+-- the rights of the kernel, by their numbers
+abbrev pub dltrts : ℕ
+dltrts = 0
+
+abbrev pub envrts : ℕ
+envrts = 1
+
+abbrev pub loadrts : ℕ
+loadrts = 2
+
+abbrev pub storts : ℕ
+storts = 3
+
+abbrev pub apprts : ℕ
+apprts = 4
+
+abbrev pub killrts : ℕ
+killrts = 5
+
+abbrev pub getrts : ℕ
+getrts = 6
+
+abbrev pub putrts : ℕ
+putrts = 7
+
+abbrev pub addrrts : ℕ
+addrrts = 8
+
+abbrev pub mdfyrts : ℕ
+mdfyrts = 9
+
+abbrev pub ucnfrts : ℕ
+ucnfrts = 10
+
+abbrev pub callrts : ℕ
+callrts = 11
+
+abbrev pub eraserts : ℕ
+eraserts = 12
+
 -- a rights rule, by what it means
 pub record Rule : Type 0 where
   pub valid : ℕ → Bool

@@ -47,6 +47,16 @@ pub enum Holder {
     Listed(Name),
 }
 
+// Where a path ends: clear if every capability on the way grants UCNFRTS; `at` is
+// the position in the path, from 1.
+#[derive(Clone, Copy)]
+pub struct Target {
+    pub holder: Holder,
+    pub index: u32,
+    pub clear: bool,
+    pub at: u8,
+}
+
 // Whose slot set-up fills: a process's or a house object's, by its number.
 #[derive(Clone, Copy)]
 pub enum Owner {
@@ -64,6 +74,10 @@ pub struct Limits {
 #[derive(Drop)]
 pub enum Kall {
     Lenth,
+    Clenth { path: Vec<u32> },
+    Dlenth { path: Vec<u32> },
+    Getdata { path: Vec<u32>, disp: u32, knt: u32 },
+    Load { new: u32, path: Vec<u32> },
 }
 
 // What a process asks for, with its own buffer; the answer comes with the serving.

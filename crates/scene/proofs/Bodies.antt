@@ -3,11 +3,13 @@ use mathlib.Core.Bool.{Bool, true, false, cond, _&&_}
 use mathlib.Core.Logic.{_≢_, _⊎_, inl, inr, ⊎-elim}
 use mathlib.Core.List.{List, [], _∷_}
 use Prim.Native.Nat.{ℕ, zero, suc, _+_, _-_, _*_, _<_, _≤_}
+use native.Mathlib.Nat.{min-le-left}
 use native.Mathlib.Omega.{arith}
 use borrow.Author.Needs.{needs}
-use lib.ListN.{length, getD, set, replicate}
-use lib.Seq.{getD-set-same, getD-set-other}
+use lib.ListN.{length, getD, set, take, drop}
+use lib.Seq.{getD-set-same, getD-set-other, drop-cons}
 use lib.Dec.{eqb, leb, ltb}
+use Rattle.std.proofs.shelf.Lists.{length-take}
 use Rattle.std.proofs.shelf.Tests.{eq-eqb, ne-eqb, eqb-true, eqb-false, cases-bool, cases-eq, cases-lt, lt-ltb, and-parts, and-cases, and-from}
 use Rattle.std.proofs.shelf.Ways.{tells}
 use Rattle.std.specs.declared.option.Option.{Option}
@@ -108,6 +110,18 @@ unfolding lot
 lot-past xs b zero i v h = refl
 lot-past xs b (suc k) zero v h = absurd (omega arith)
 lot-past xs b (suc k) (suc i) v h = ap (λ (t : List Slot). getD xs b Empty ∷ t) (lot-past xs (suc b) k i v (omega arith))
+
+-- a lot is a part of the slots
+pub lot-part : (xs : List Slot) (b k : ℕ) → b + k ≤ length xs → lot xs b k ≡ take k (drop b xs)
+unfolding lot
+lot-part xs b zero h = refl
+lot-part xs b (suc k) h = rw (drop-cons xs b Empty (omega arith), lot-part xs (suc b) k (omega arith))
+
+pub lot-eight : (xs : List Slot) (b : ℕ) → b + 8 ≤ length xs → take ((b + 8) - b) (drop b xs) ≡ lot xs b 8
+lot-eight xs b h = let e : (b + 8) - b ≡ 8 = omega arith in rw e (sym (lot-part xs b 8 h))
+
+pub eight-long : (ys : List Slot) (b : ℕ) → length (take ((b + 8) - b) ys) ≤ 8
+eight-long ys b = let e : (b + 8) - b ≡ 8 = omega arith in rw (e, length-take) (min-le-left 8 (length ys))
 
 -- names
 pub both : (m n : Name) → same-name m n ≡ true → (m .share ≡ n .share) × (m .number ≡ n .number)

@@ -92,6 +92,10 @@ abbrev pub on-shelf : Option ℕ → Option ℕ
 on-shelf None = None
 on-shelf (Some p) = Some (p + 1)
 
+abbrev pub On-a-shelf : Option ℕ → Type 0
+On-a-shelf None = Unit {0}
+On-a-shelf (Some p) = (1 ≤ p) × (p ≤ 160)
+
 unfoldable pub home-of : List Row → Name → Option ℕ
 home-of rows n = on-shelf (place-of rows (n .share) (n .number))
 

@@ -5,11 +5,11 @@ ghost use lib.ListN.{length, replicate};
 ghost use Rattle.model.specs.declared.kinds.Slot.the-variants.{Empty};
 ghost use Rattle.std.specs.declared.result.Result.the-variants.{Ok};
 ghost use Rattle.std.specs.Vec.{made as Made};
-ghost use Rattle.model.specs.Plan.{slot-of, own-slot, slot-at, runs, vacant, lives, last-filled, length-of, places};
+ghost use Rattle.model.specs.Plan.{slot-of, own-slot, slot-at, runs, vacant, lives, last-filled, length-of, list-length, places};
 ghost use Rattle.model.specs.Kalls.{put-own, put-listed, put-in};
 ghost use Rattle.model.specs.SetUp.{bare, unenrolled, enrol, enrolled, owned, living, Sets};
 ghost use Rattle.scene.specs.Places.{base-of, seek, place-of, Within};
-ghost use Rattle.scene.specs.Abstract.{frame, homes, process-of, living-of, depth-of, wiped, Makes};
+ghost use Rattle.scene.specs.Abstract.{frame, homes, On-a-shelf, process-of, living-of, depth-of, wiped, Makes};
 use crate::kinds::Row;
 use crate::kinds::Spot;
 use crate::kinds::State;
@@ -232,6 +232,28 @@ impl Tables {
         space_length(&self.processes[process as usize - 1].spaces[depth - 1].slots)
     }
 
+    // The length of an object's list.
+    pub fn list_length(&self, name: Name) -> usize
+        ensures value { λ r. ⌜ Ok r ≡ list-length name (frame (now (self .entry))) ⌝ }
+        ensures bound { λ r. ⌜ r ≤ 8 ⌝ }
+    {
+        let Some(place) = self.find(name) else {
+            return 0;
+        };
+        last_filled(&self.slots[8 * place..8 * place + 8])
+    }
+
+    // Where on the shelf an object's elements lie.
+    pub fn home(&self, name: Name) -> Option<usize>
+        ensures value { λ r. ⌜ r ≡ homes (now (self .entry)) name ⌝ }
+        ensures within { λ r. ⌜ On-a-shelf r ⌝ }
+    {
+        match self.find(name) {
+            Some(place) => Some(place + 1),
+            None => None,
+        }
+    }
+
     pub fn is_living(&self, name: Name) -> bool
         ensures { λ r. ⌜ r ≡ lives (frame (now (self .entry))) name ⌝ }
     {
@@ -241,7 +263,8 @@ impl Tables {
         }
     }
 
-    fn reach(&self, process: u32, holder: Holder, index: u32, at: u8) -> Result<Slot, Fault>
+    // A slot by an index from 1.
+    pub fn reach(&self, process: u32, holder: Holder, index: u32, at: u8) -> Result<Slot, Fault>
         ensures { λ r. ⌜ r ≡ slot-at (frame (now (self .entry))) process holder index at ⌝ }
     {
         if index == 0 {
