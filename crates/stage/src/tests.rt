@@ -45,8 +45,12 @@ fn bad_scripts(rt: LibcRuntime) -> Result<(), Fail> {
         ("open\n4294967296 LENTH\nreckon", 2, Wrong::Number),
         ("make 1 1 : 65536\nopen\nreckon", 1, Wrong::Word),
     ];
-    for (text, line, wrong) in table {
-        check_eq(fault(rt.alloc(), text), Some(BadLine { line, wrong })).note(text)?;
+    for (text, line, wrong) in &table {
+        let bad = Some(BadLine {
+            line: *line,
+            wrong: *wrong,
+        });
+        check_eq(fault(rt.alloc(), text), bad).note(text)?;
     }
     let good = "make 1 1 : 65535 #\nopen\n4294967295\tLENTH :\n\nreckon\n # end";
     check_eq(fault(rt.alloc(), good), None)
