@@ -25,6 +25,14 @@ pub struct Rows<'a, E> {
     ghost enough: { most ≤ length (now cells) },
 }
 
+// The sequences end to end, in the order of their places.
+#[derive(Drop)]
+pub struct Packed<'a, E> {
+    pub(crate) cells: &'a mut [E],
+    pub(crate) lengths: Lengths,
+    ghost enough: { most ≤ length (now cells) },
+}
+
 impl<'a, E> Cells<'a, E> {
     pub fn counted(cells: &'a mut [E]) -> Result<Cells<'a, E>, Fault>
         ensures { λ r. ⌜ mapped (λ c. now (c .cells)) (λ e. e) r ≡ counted (now (cells .entry)) ⌝ }

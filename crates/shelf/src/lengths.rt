@@ -2,8 +2,8 @@
 ghost use lib.ListN.{length, getD, set, replicate};
 ghost use mathlib.Core.Path.{_≡_};
 ghost use Prim.Native.Nat.{ℕ, _+_, _-_, _≤_, _<_};
-ghost use Rattle.shelf.specs.Places.{greatest, refusal, «is-place», «if-so»};
-ghost use Rattle.shelf.specs.Kept.{Short, «kept-length», «kept-index», «kept-room»};
+ghost use Rattle.shelf.specs.Places.{greatest, most, refusal, «is-place», «if-so»};
+ghost use Rattle.shelf.specs.Kept.{Short, before, «kept-length», «kept-index», «kept-room»};
 use model::signals::Fault;
 use model::signals::Signal;
 
@@ -57,6 +57,26 @@ impl Lengths {
             return Err(refusal());
         }
         Ok(n)
+    }
+
+    // The sum of the lengths of the places before one.
+    pub(crate) fn before(&self, place: usize) -> usize
+        requires { ⌜ 1 ≤ place ⌝ ∗ ⌜ place ≤ 160 ⌝ }
+        ensures sum { λ r. ⌜ r ≡ before (now (self .entry) .table) (place - 1) ⌝ }
+        ensures fits { λ r. ⌜ r + getD (now (self .entry) .table) (place - 1) 0 ≤ most ⌝ }
+    {
+        let mut sum = 0;
+        for i in 0..place - 1 {
+            sum += self.table[i] as usize;
+        }
+        sum
+    }
+
+    pub(crate) fn total(&self) -> usize
+        ensures sum { λ r. ⌜ r ≡ before (now (self .entry) .table) 160 ⌝ }
+        ensures fits { λ r. ⌜ r ≤ most ⌝ }
+    {
+        self.before(160) + self.table[159] as usize
     }
 
     pub(crate) fn set(&mut self, place: usize, n: usize)
