@@ -1,5 +1,5 @@
 -- What the table of lengths answers is what the sequences answer: h holds sequences, and ls has the length of place p's.
-use mathlib.Core.Path.{_≡_, refl, sym, ap, subst, _∙_}
+use mathlib.Core.Path.{_≡_, refl, sym, ap, _∙_}
 use mathlib.Core.List.{List, [], _∷_, _++_}
 use mathlib.Core.Bool.{Bool, true, false, _&&_, cond}
 use mathlib.Core.Logic.{⊎-elim}
@@ -14,21 +14,7 @@ use Rattle.std.proofs.shelf.Maps.{nth-read, nth-past}
 use Rattle.std.specs.declared.result.Result.{Result}
 use Rattle.std.specs.declared.result.Result.the-variants.{Ok, Err}
 use Rattle.model.specs.declared.signals.Fault.{Fault}
-use Rattle.shelf.specs.Places.{
-  is-place,
-  is-index,
-  if-so,
-  greatest,
-  refusal,
-  with-place,
-  found,
-  length-at,
-  element-at,
-  replaced,
-  appended,
-  cleared,
-  Writes,
-}
+use Rattle.shelf.specs.Places.{is-place, is-index, if-so, greatest, refusal, with-place, found, length-at, element-at, replaced, appended, cleared, Writes}
 use Rattle.std.specs.Vec.{made}
 use Rattle.std.specs.Results.{ErrBy}
 use Rattle.std.proofs.shelf.Results.{err-from-errBy}

@@ -1,15 +1,15 @@
 -- Sequences end to end.
 use mathlib.Core.Path.{_≡_, refl, sym, ap, subst, _∙_}
 use mathlib.Core.List.{List, [], _∷_, _++_}
-use mathlib.Core.Bool.{Bool, true}
+use mathlib.Core.Bool.{true}
 use mathlib.Core.Logic.{⊎-elim}
-use Prim.Native.Nat.{ℕ, _+_, _-_, _*_, _≤_, _<_}
+use Prim.Native.Nat.{ℕ, _+_, _-_, _≤_, _<_}
 use native.Mathlib.Omega.{arith}
 use lib.ListN.{length, getD, set}
 use Rattle.std.proofs.shelf.Lists.{length-set, getD-set-same, getD-set-other, set-getD}
 use Rattle.std.proofs.shelf.Tests.{cases-order}
 use Rattle.shelf.specs.Places.{is-place, with-place, greatest, most}
-use Rattle.shelf.specs.Kept.{Short, Shifted, lot, laid, before, packed}
+use Rattle.shelf.specs.Kept.{Short, Shifted, lot, before, packed}
 use Rattle.shelf.proofs.Shortness.{short-set}
 use Rattle.shelf.proofs.Summing.{before-mono, before-low, before-high, before-next, before-most, before-fits}
 use Rattle.shelf.proofs.Answering.{place-told}

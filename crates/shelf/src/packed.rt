@@ -18,9 +18,10 @@ impl<'a, E> Packed<'a, E> {
         ensures { λ r. ⌜ «in-packed» r ≡ (λ _. []) ⌝ }
     {
         let lent = cells.cells;
+        let lengths = Lengths::new();
         Packed {
             cells: lent,
-            lengths: Lengths::new(),
+            lengths,
         }
     }
 }

@@ -9,4 +9,4 @@ use Rattle.shelf.proofs.cells.Packed.new.Needs as need
 pub returns : need.returns
 returns g c =
     let xs = c .args .cells .cells .now in
-    ap (λ (ls : List ℕ). packed ls xs) (c .new .ensures) ∙ empty (λ p. before (replicate 160 0) (p - 1)) xs
+    ap (λ (ls : List ℕ). packed ls xs) (c .new-lengths .ensures) ∙ empty (λ p. before (replicate 160 0) (p - 1)) xs

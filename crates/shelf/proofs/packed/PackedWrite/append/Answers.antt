@@ -1,4 +1,4 @@
-use mathlib.Core.Path.{_≡_, ap, subst, sym, _∙_}
+use mathlib.Core.Path.{ap, subst, _∙_}
 use mathlib.Core.List.{List}
 use Prim.Native.Nat.{ℕ, _+_, _≤_, _<_}
 use native.Mathlib.Omega.{arith}
@@ -6,7 +6,7 @@ use borrow.Author.Needs.{needs}
 use Rattle.shelf.specs.Places.{greatest, most}
 use Rattle.shelf.proofs.Answering.{place-told, room-told, appended-yes, appended-no}
 use Rattle.shelf.proofs.Packing.{pack-size, pack-appended, pack-ends, pack-room}
-use Rattle.shelf.specs.Kept.{Shifted, before, packed}
+use Rattle.shelf.specs.Kept.{Shifted, packed}
 use Rattle.shelf.proofs.packed.PackedWrite.append.Needs as need
 
 pub returns-in-Break-n : need.returns-in-Break-n

@@ -1,10 +1,10 @@
-use mathlib.Core.Path.{_≡_, ap, subst, sym, _∙_}
+use mathlib.Core.Path.{ap, subst, _∙_}
 use mathlib.Core.List.{List}
 use Prim.Native.Nat.{ℕ, _+_, _-_}
 use native.Mathlib.Omega.{arith}
 use Rattle.shelf.proofs.Answering.{told, cleared-yes, cleared-no}
 use Rattle.shelf.proofs.Packing.{pack-size, pack-cleared, pack-ends}
-use Rattle.shelf.specs.Kept.{Shifted, before, packed}
+use Rattle.shelf.specs.Kept.{Shifted, packed}
 use Rattle.shelf.proofs.packed.PackedWrite.clear.Needs as need
 
 pub returns-in-Break-n : need.returns-in-Break-n
