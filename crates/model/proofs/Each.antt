@@ -5,17 +5,23 @@ use mathlib.Core.Bool.{Bool, true}
 use Prim.Native.Nat.{ℕ}
 use lib.IntN.{pos}
 use lib.ListN.{length}
+use Rattle.std.specs.declared.option.Option.{Option}
 use Rattle.std.specs.declared.result.Result.{Result}
 use Rattle.std.specs.declared.result.Result.the-variants.{Ok, Err}
 use Rattle.std.specs.Of.Vec.{vec-items}
 use Rattle.model.specs.declared.kinds.Kall.{Kall}
-use Rattle.model.specs.declared.kinds.Kall.the-variants.{Lenth, Clenth, Dlenth, Getdata, Load}
+use Rattle.model.specs.declared.kinds.Kall.the-variants.{Lenth, Clenth, Dlenth, Getdata, Load, Pass, Take, Store, Append, Passappend, Delete, Interchange}
 use Rattle.model.specs.declared.signals.Fault.{Fault}
 use Rattle.model.specs.Model.{World}
 use Rattle.model.specs.Plan.{Plan, after}
-use Rattle.model.specs.Kalls.{Plain, Outcome, plain, block, copied, read-at, kall-lenth, kall-clenth, kall-dlenth, kall-getdata, kall-load, plan}
-use Rattle.model.proofs.Safe.{Setting, On, Sound, bind, pure, weaken}
-use Rattle.model.proofs.Views.{here, kept-by, fit-loaded, sound-runs, sound-enter, sound-length, sound-list-length, sound-elements, sound-object-at, sound-held, sound-vacant, sound-walk}
+use Rattle.model.specs.Kalls.{
+  Plain, Outcome, plain, block, copied, read-at, kall-lenth, kall-clenth, kall-dlenth, kall-getdata, kall-load,
+  is-just, kall-pass, kall-take, kall-store, kall-append, kall-passappend, kall-delete, kall-interchange, plan
+}
+use Rattle.model.proofs.Safe.{Setting, level, On, Sound, bind, pure, branch, weaken}
+use Rattle.model.proofs.Views.{
+  here, kept-by, owned-by, fit-loaded, fit-taken, fit-restricted, fit-stored, sound-next-slot, sound-runs, sound-enter, sound-length, sound-list-length, sound-elements, sound-object-at, sound-held, sound-vacant, sound-walk
+}
 use Rattle.model.proofs.Edits.{Admits-all}
 
 module _ {E : Type 0} (S : Setting) (b : Bool) (p : ℕ) (c : S .cast p ≡ b) where
@@ -73,9 +79,76 @@ module _ {E : Type 0} (S : Setting) (b : Bool) (p : ℕ) (c : S .cast p ≡ b) w
       bind (sound-held p c _ _ _ (k .place)) λ s f.
       pure (Ok _) ((tt, fit-loaded S b (t .clear) s f), tt)
 
+  sound-pass : (path : List ℕ) (cur : ℕ) (mask : Option ℕ) → Sound {E = E} S b (λ w. kall-pass (S .rule) p path cur mask (w .frame)) Good-plain
+  sound-pass path cur mask =
+      bind (sound-enter p c _ _) λ _ _.
+      bind (sound-held p c _ _ _ here) λ s f.
+      bind (sound-walk p c _ _ path) λ t k.
+      bind (sound-vacant p c _ _ (k .place)) λ _ _.
+      pure (Ok _) ((k .own tt tt, fit-restricted S (level b true) mask s f), ((tt, tt), tt))
+
+  sound-take : (new : ℕ) (path : List ℕ) → Sound {E = E} S b (λ w. kall-take (S .rule) p new path (w .frame)) Good-plain
+  sound-take new path =
+      bind (sound-enter p c _ _) λ _ _.
+      bind (sound-vacant p c _ _ here) λ _ _.
+      bind (sound-walk p c _ _ path) λ t k.
+      bind (sound-held p c _ _ _ (k .place)) λ s f.
+      pure (Ok _) ((tt, fit-taken S b (t .clear) s f), ((k .own tt tt, tt), tt))
+
+  sound-store : (path : List ℕ) (cur : ℕ) (mask : Option ℕ) → Sound {E = E} S b (λ w. kall-store (S .rule) p path cur mask (w .frame)) Good-plain
+  sound-store path cur mask =
+      bind (sound-enter p c _ _) λ _ _.
+      branch (is-just cur path)
+        (bind (sound-held p c _ _ _ here) λ s f.
+        pure (Ok _) ((tt, fit-restricted S (level b true) mask s f), tt))
+        (bind (sound-held p c _ _ _ here) λ s f.
+        bind (sound-walk p c _ _ path) λ t k.
+        bind (sound-vacant p c _ _ (k .place)) λ _ _.
+        pure (Ok _) ((k .own tt tt, fit-stored S (level b true) mask s f), tt))
+
+  sound-append : (path : List ℕ) (cur : ℕ) (mask : Option ℕ) → Sound {E = E} S b (λ w. kall-append (S .rule) p path cur mask (w .frame)) Good-plain
+  sound-append path cur mask =
+      bind (sound-enter p c _ _) λ _ _.
+      bind (sound-held p c _ _ _ here) λ s f.
+      bind (sound-walk p c _ _ path) λ t k.
+      bind (sound-object-at p c _ _ _ (k .place)) λ x h.
+      bind (sound-next-slot (x .name) (kept-by b h)) λ i _.
+      pure (Ok _) ((owned-by k h tt tt tt, fit-stored S (level b true) mask s f), tt)
+
+  sound-passappend : (path : List ℕ) (cur : ℕ) (mask : Option ℕ) → Sound {E = E} S b (λ w. kall-passappend (S .rule) p path cur mask (w .frame)) Good-plain
+  sound-passappend path cur mask =
+      bind (sound-enter p c _ _) λ _ _.
+      bind (sound-held p c _ _ _ here) λ s f.
+      bind (sound-walk p c _ _ path) λ t k.
+      bind (sound-object-at p c _ _ _ (k .place)) λ x h.
+      bind (sound-next-slot (x .name) (kept-by b h)) λ i _.
+      pure (Ok _) ((owned-by k h tt tt tt, fit-restricted S (level b true) mask s f), ((tt, tt), tt))
+
+  sound-delete : (path : List ℕ) → Sound {E = E} S b (λ w. kall-delete (S .rule) p path (w .frame)) Good-plain
+  sound-delete path =
+      bind (sound-enter p c _ _) λ _ _.
+      bind (sound-walk p c _ _ path) λ t k.
+      bind (sound-held p c _ _ _ (k .place)) λ _ _.
+      pure (Ok _) ((k .own tt tt, tt), tt)
+
+  sound-interchange : (path : List ℕ) (cur : ℕ) (mask : Option ℕ) → Sound {E = E} S b (λ w. kall-interchange (S .rule) p path cur mask (w .frame)) Good-plain
+  sound-interchange path cur mask =
+      bind (sound-enter p c _ _) λ _ _.
+      bind (sound-held p c _ _ _ here) λ s f.
+      bind (sound-walk p c _ _ path) λ t k.
+      bind (sound-held p c _ _ _ (k .place)) λ r h.
+      pure (Ok _) ((tt, fit-taken S b (t .clear) r h), ((k .own tt tt, fit-restricted S (level b true) mask s f), tt))
+
   pub sound-plan : (k : Kall) (xs : List E) → Sound {E = E} S b (plan (S .rule) p k xs) Good
   sound-plan Lenth xs = plainly sound-lenth
   sound-plan (Clenth path) xs = plainly (sound-clenth (vec-items path))
   sound-plan (Dlenth path) xs = plainly (sound-dlenth (vec-items path))
   sound-plan (Getdata path disp knt) xs = sound-getdata (vec-items path) disp knt xs
   sound-plan (Load new path) xs = plainly (sound-load new (vec-items path))
+  sound-plan (Pass path cur mask) xs = plainly (sound-pass (vec-items path) cur mask)
+  sound-plan (Take new path) xs = plainly (sound-take new (vec-items path))
+  sound-plan (Store path cur mask) xs = plainly (sound-store (vec-items path) cur mask)
+  sound-plan (Append path cur mask) xs = plainly (sound-append (vec-items path) cur mask)
+  sound-plan (Passappend path cur mask) xs = plainly (sound-passappend (vec-items path) cur mask)
+  sound-plan (Delete path) xs = plainly (sound-delete (vec-items path))
+  sound-plan (Interchange path cur mask) xs = plainly (sound-interchange (vec-items path) cur mask)

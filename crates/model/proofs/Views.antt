@@ -49,10 +49,10 @@ use Rattle.model.specs.Plan.{
   top-slots,
   length-of,
   list-of,
-  list-length,
+  list-length, after-length, next-slot
 }
 use Rattle.model.specs.Isolation.{If, Look}
-use Rattle.model.specs.Kalls.{on-rights, loaded}
+use Rattle.model.specs.Kalls.{on-rights, taken, loaded, masked, restricted, stored}
 use Rattle.model.proofs.Safe.{
   Setting,
   Level,
@@ -147,13 +147,32 @@ module _ (S : Setting) where
   fit-lower false true s h = h
   fit-lower false false s h = fit-any s
 
+  pub fit-taken : (b u : Bool) (s : Slot) → Fit S (level b u) s → Fit S (level b true) (taken (S .rule) u s)
+  fit-taken b u Empty h = tt
+  fit-taken b u (Template y) h = tt
+  fit-taken true u (Capability x) h = h
+  fit-taken false true (Capability x) h = h
+  fit-taken false false (Capability x) h = λ k. (S .laws .strip-modify (x .rights), S .laws .strip-unconfined (x .rights))
+
   pub fit-loaded : (b u : Bool) (s : Slot) → Fit S (level b u) s → Fit S (level b true) (loaded (S .rule) u s)
-  fit-loaded b true s h = fit-on (level b true) (S .rule .add-delete) s modest-add h
-  fit-loaded b false Empty h = tt
-  fit-loaded true false (Capability x) h = h
-  fit-loaded false false (Capability x) h =
-      λ k. modest-add (S .rule .strip (x .rights)) (S .laws .strip-modify (x .rights), S .laws .strip-unconfined (x .rights))
-  fit-loaded b false (Template y) h = tt
+  fit-loaded b u Empty h = tt
+  fit-loaded b u (Template y) h = tt
+  fit-loaded b u (Capability x) h = fit-on (level b true) (S .rule .add-delete) (taken (S .rule) u (Capability x)) modest-add (fit-taken b u (Capability x) h)
+
+  pub modest-restrict : (m : ℕ) → Modest (λ r. S .rule .restrict r m)
+  modest-restrict m r h =
+      (S .laws .restrict-both r m 9 (lit≤ tt) ∙ ap (λ x. x && S .rule .grants m 9) (h .0)
+      , S .laws .restrict-both r m 10 (lit≤ tt) ∙ ap (λ x. x && S .rule .grants m 10) (h .1))
+
+  modest-mask : (mask : Option ℕ) → Modest (masked (S .rule) mask)
+  modest-mask None r h = h
+  modest-mask (Some m) r h = modest-restrict m r h
+
+  pub fit-restricted : (v : Level) (mask : Option ℕ) (s : Slot) → Fit S v s → Fit S v (restricted (S .rule) mask s)
+  fit-restricted v mask s h = fit-on v (masked (S .rule) mask) s (modest-mask mask) h
+
+  pub fit-stored : (v : Level) (mask : Option ℕ) (s : Slot) → Fit S v s → Fit S v (stored (S .rule) mask s)
+  fit-stored v mask s h = fit-on v (λ r. masked (S .rule) mask (S .rule .add-delete r)) s (λ r k. modest-mask mask (S .rule .add-delete r) (modest-add r k)) h
 
 -- a place that the caller reached
 pub record Place (S : Setting) (b : Bool) (h : Holder) (u : Bool) : Type 0 where
@@ -334,12 +353,21 @@ module _ {E : Type 0} {S : Setting} {b : Bool} (p : ℕ) (c : S .cast p ≡ b) w
   unfolding length-of
   sound-length = record { good = λ w v. tt; same = λ t v w _ _ a. ap (λ o. Ok (last-filled (top-slots (spaces-of o)))) (a .frame .process p (c ∙ t)) }
 
+-- an object that an open writing walk reached, with the right to modify it
+pub owned-by : {S : Setting} {b : Bool} {ks ls js : List ℕ} {h : Holder} {u : Bool} {x : Cap} → Stands S b ks ls h u → Known S b u js x
+    → T (asks ucnfrts ks) → T (asks ucnfrts ls) → T (asks mdfyrts js) → Own S b (x .name)
+owned-by {S} {b} {ks} {ls} {js} {h} {u} {x} st k t v m = k .own (both (st .clear t v) (granted (S .rule) (x .rights) mdfyrts js m (k .grants)))
+
 -- what the cast reads of an object that it reached
 module _ {E : Type 0} {S : Setting} {b : Bool} (n : Name) (kept : b ≡ true → S .Kept n) where
   pub sound-list-length : Sound {E = E} S b (λ w. list-length n (w .frame)) (λ _. Unit {0})
   unfolding list-length
   sound-list-length =
       record { good = λ w v. tt; same = λ t v w _ _ a. ap (λ o. Ok (last-filled (list-of o))) (a .frame .object n (kept t)) }
+
+  pub sound-next-slot : Sound {E = E} S b (λ w. next-slot n (w .frame)) (λ _. Unit {0})
+  unfolding next-slot
+  sound-next-slot = record { good = λ w v. on-any S _; same = λ t v w _ _ a. ap after-length (a .frame .object n (kept t)) }
 
   pub sound-elements : {A : Type 0} {Q : A → Type 0} (k : List E → Result A Fault) → ((xs : List E) → On Q (k xs)) → Sound {E = E} S b (λ w. k (w .elements n)) Q
   sound-elements k q = record { good = λ w v. q (w .elements n); same = λ t v w _ _ a. ap k (a .elements n (kept t)) }

@@ -4,7 +4,7 @@ use mathlib.Core.Bool.{Bool, cond, _&&_}
 use Prim.Native.Nat.{ℕ, _+_, _-_}
 use lib.Dec.{eqb, leb, ltb}
 use lib.IntN.{ℤ, pos}
-use lib.ListN.{length, set, take, drop, replicate}
+use lib.ListN.{length, getD, set, take, drop, replicate}
 use Rattle.std.specs.declared.option.Option.{Option}
 use Rattle.std.specs.declared.option.Option.the-variants.{Some, None}
 use Rattle.std.specs.declared.result.Result.{Result}
@@ -18,12 +18,12 @@ use Rattle.model.specs.declared.kinds.Space.{Space}
 use Rattle.model.specs.declared.kinds.Holder.{Holder}
 use Rattle.model.specs.declared.kinds.Holder.the-variants.{Mine, Listed}
 use Rattle.model.specs.declared.kinds.Kall.{Kall}
-use Rattle.model.specs.declared.kinds.Kall.the-variants.{Lenth, Clenth, Dlenth, Getdata, Load}
+use Rattle.model.specs.declared.kinds.Kall.the-variants.{Lenth, Clenth, Dlenth, Getdata, Load, Pass, Take, Store, Append, Passappend, Delete, Interchange}
 use Rattle.model.specs.declared.signals.Fault.{Fault}
 use Rattle.model.specs.declared.signals.Signal.the-variants.{Slim}
 use Rattle.model.specs.Signals.{fault}
-use Rattle.model.specs.Model.{Body, Task, Frame, World, Rule, loadrts, getrts}
-use Rattle.model.specs.Plan.{Plan, after, _>>=_, _>>_, runs, enter, length-of, list-length, vacant, held, object-at, walk}
+use Rattle.model.specs.Model.{Body, Task, Frame, World, Rule, dltrts, envrts, loadrts, storts, apprts, killrts, getrts, mdfyrts, ucnfrts}
+use Rattle.model.specs.Plan.{Plan, after, _>>=_, _>>_, runs, enter, length-of, list-length, next-slot, vacant, held, object-at, walk}
 
 abbrev pub same-name : Name → Name → Bool
 same-name n m = eqb (n .share) (m .share) && eqb (n .number) (m .number)
@@ -115,6 +115,30 @@ on-rights g (Template t) = Template (record { rights = g (t .rights); wanted = t
 abbrev pub loaded : Rule → Bool → Slot → Slot
 loaded rule clear s = on-rights (λ r. rule .add-delete (cond clear r (rule .strip r))) s
 
+-- a slot that a walk took out: stripped unless the way was clear
+abbrev pub taken : Rule → Bool → Slot → Slot
+taken rule clear s = on-rights (λ r. cond clear r (rule .strip r)) s
+
+-- under a mask, where one is given
+abbrev pub masked : Rule → Option ℕ → ℕ → ℕ
+masked rule None r = r
+masked rule (Some m) r = rule .restrict r m
+
+abbrev pub restricted : Rule → Option ℕ → Slot → Slot
+restricted rule mask s = on-rights (λ r. masked rule mask r) s
+
+-- a copy: delete added, then under the mask
+abbrev pub stored : Rule → Option ℕ → Slot → Slot
+stored rule mask s = on-rights (λ r. masked rule mask (rule .add-delete r)) s
+
+-- the path is the one index i
+abbrev pub is-just : ℕ → List ℕ → Bool
+is-just i path = eqb (length path) 1 && eqb (getD path 0 0) i
+
+-- what a slot must grant to leave the name space by the path
+abbrev pub leaving : List ℕ → List ℕ
+leaving path = cond (eqb (length path) 1) [] (envrts ∷ [])
+
 -- the block of a data part that is asked for, to the part's end at most; `given` is the buffer's length
 abbrev pub block : {E : Type 0} → ℕ → ℕ → ℕ → List E → Result (List E) Fault
 block disp knt given xs =
@@ -123,6 +147,10 @@ block disp knt given xs =
 -- a block at the buffer's front, the rest of the buffer as it was
 abbrev pub copied : {E : Type 0} → List E → List E → Outcome E
 copied xs ys = record { value = pos (length ys); buffer = Some (ys ++ drop (length ys) xs); edits = [] }
+
+-- a writing walk wants these rights of its steps, and of its pretarget where no others are named
+abbrev pub writing : List ℕ
+writing = loadrts ∷ ucnfrts ∷ []
 
 module _ (rule : Rule) (p : ℕ) where
   -- an object at the end of a reading walk, with the right k
@@ -168,6 +196,73 @@ module _ {E : Type 0} (rule : Rule) (p : ℕ) where
     s ← held rule [] p (t .holder) (t .index) (t .at)
     done (pos 0) (put Mine new (loaded rule (t .clear) s) ∷ [])
 
+  abbrev pub kall-pass : List ℕ → ℕ → Option ℕ → Plan Frame (Plain E)
+  kall-pass path cur mask = do
+    enter rule p mask (length path)
+    s ← held rule (dltrts ∷ leaving path) p Mine cur 0
+    t ← walk rule writing (storts ∷ mdfyrts ∷ []) p path
+    vacant p (t .holder) (t .index) (t .at)
+    done (pos 0) (put (t .holder) (t .index) (restricted rule mask s) ∷ put Mine cur Empty ∷ [])
+
+  abbrev pub kall-take : ℕ → List ℕ → Plan Frame (Plain E)
+  kall-take new path = do
+    enter rule p None (length path)
+    vacant p Mine new 0
+    t ← walk rule writing (killrts ∷ loadrts ∷ mdfyrts ∷ []) p path
+    s ← held rule (dltrts ∷ []) p (t .holder) (t .index) (t .at)
+    done (pos 0) (put Mine new (taken rule (t .clear) s) ∷ put (t .holder) (t .index) Empty ∷ [])
+
+  -- in place, and elsewhere
+  abbrev pub store-here : ℕ → Option ℕ → Plan Frame (Plain E)
+  store-here cur mask = do
+    s ← held rule (dltrts ∷ []) p Mine cur 0
+    done (pos 0) (put Mine cur (restricted rule mask s) ∷ [])
+
+  abbrev pub store-there : List ℕ → ℕ → Option ℕ → Plan Frame (Plain E)
+  store-there path cur mask = do
+    s ← held rule (leaving path) p Mine cur 0
+    t ← walk rule writing (storts ∷ mdfyrts ∷ []) p path
+    vacant p (t .holder) (t .index) (t .at)
+    done (pos 0) (put (t .holder) (t .index) (stored rule mask s) ∷ [])
+
+  abbrev pub kall-store : List ℕ → ℕ → Option ℕ → Plan Frame (Plain E)
+  kall-store path cur mask = do
+    enter rule p mask (length path)
+    λ f. cond (is-just cur path) (store-here cur mask f) (store-there path cur mask f)
+
+  abbrev pub kall-append : List ℕ → ℕ → Option ℕ → Plan Frame (Plain E)
+  kall-append path cur mask = do
+    enter rule p mask (length path)
+    s ← held rule (envrts ∷ []) p Mine cur 0
+    t ← walk rule writing writing p path
+    c ← object-at rule (mdfyrts ∷ apprts ∷ []) p (t .holder) (t .index) (t .at)
+    i ← next-slot (c .name)
+    done (pos 0) (put (Listed (c .name)) i (stored rule mask s) ∷ [])
+
+  abbrev pub kall-passappend : List ℕ → ℕ → Option ℕ → Plan Frame (Plain E)
+  kall-passappend path cur mask = do
+    enter rule p mask (length path)
+    s ← held rule (envrts ∷ dltrts ∷ []) p Mine cur 0
+    t ← walk rule writing writing p path
+    c ← object-at rule (mdfyrts ∷ apprts ∷ []) p (t .holder) (t .index) (t .at)
+    i ← next-slot (c .name)
+    done (pos 0) (put (Listed (c .name)) i (restricted rule mask s) ∷ put Mine cur Empty ∷ [])
+
+  abbrev pub kall-delete : List ℕ → Plan Frame (Plain E)
+  kall-delete path = do
+    enter rule p None (length path)
+    t ← walk rule writing (mdfyrts ∷ killrts ∷ []) p path
+    held rule (dltrts ∷ []) p (t .holder) (t .index) (t .at)
+    done (pos 0) (put (t .holder) (t .index) Empty ∷ [])
+
+  abbrev pub kall-interchange : List ℕ → ℕ → Option ℕ → Plan Frame (Plain E)
+  kall-interchange path cur mask = do
+    enter rule p mask (length path)
+    s ← held rule (dltrts ∷ []) p Mine cur 0
+    t ← walk rule writing (mdfyrts ∷ killrts ∷ loadrts ∷ storts ∷ []) p path
+    r ← held rule (dltrts ∷ []) p (t .holder) (t .index) (t .at)
+    done (pos 0) (put Mine cur (taken rule (t .clear) r) ∷ put (t .holder) (t .index) (restricted rule mask s) ∷ [])
+
 -- a kall that leaves the buffer alone
 abbrev pub plain : {E : Type 0} → Result (Plain E) Fault → Result (Outcome E) Fault
 plain (Ok o) = Ok (record { value = o .value; buffer = None; edits = o .edits })
@@ -179,6 +274,13 @@ plan rule p (Clenth path) xs w = plain (kall-clenth rule p (vec-items path) (w .
 plan rule p (Dlenth path) xs w = plain (kall-dlenth rule p (vec-items path) w)
 plan rule p (Getdata path disp knt) xs w = kall-getdata rule p (vec-items path) disp knt xs w
 plan rule p (Load new path) xs w = plain (kall-load rule p new (vec-items path) (w .frame))
+plan rule p (Pass path cur mask) xs w = plain (kall-pass rule p (vec-items path) cur mask (w .frame))
+plan rule p (Take new path) xs w = plain (kall-take rule p new (vec-items path) (w .frame))
+plan rule p (Store path cur mask) xs w = plain (kall-store rule p (vec-items path) cur mask (w .frame))
+plan rule p (Append path cur mask) xs w = plain (kall-append rule p (vec-items path) cur mask (w .frame))
+plan rule p (Passappend path cur mask) xs w = plain (kall-passappend rule p (vec-items path) cur mask (w .frame))
+plan rule p (Delete path) xs w = plain (kall-delete rule p (vec-items path) (w .frame))
+plan rule p (Interchange path cur mask) xs w = plain (kall-interchange rule p (vec-items path) cur mask (w .frame))
 
 -- how a kall ends that leaves the buffer alone: a fault changes nothing
 pub record Ending (E : Type 0) : Type 0 where

@@ -18,7 +18,7 @@ use Rattle.model.specs.declared.kinds.Target.{Target}
 use Rattle.model.specs.declared.kinds.Holder.{Holder}
 use Rattle.model.specs.declared.kinds.Holder.the-variants.{Mine, Listed}
 use Rattle.model.specs.declared.signals.Fault.{Fault}
-use Rattle.model.specs.declared.signals.Signal.the-variants.{Sproc, Sstop, Spath, Sindex, Snull, Stempl, Sgone, Srts, Stype, Sfull, Sroom, Snames, Smask}
+use Rattle.model.specs.declared.signals.Signal.the-variants.{Sproc, Sstop, Spath, Sindex, Snull, Stempl, Sgone, Srts, Stype, Sfull, Slim, Sroom, Snames, Smask}
 use Rattle.model.specs.Signals.{fault}
 use Rattle.model.specs.Model.{Body, Task, Frame, Rule, ucnfrts}
 
@@ -186,6 +186,14 @@ list-of (Some b) = b .list
 
 unfoldable pub list-length : Name → Plan Frame ℕ
 list-length n f = Ok (last-filled (list-of (f .object n)))
+
+-- the slot after a list's length, if the list has one
+abbrev pub after-length : Option Body → Result ℕ Fault
+after-length None = Err (fault Slim 0)
+after-length (Some b) = cond (ltb (last-filled (b .list)) (room (b .kind))) (Ok (last-filled (b .list) + 1)) (Err (fault Slim 0))
+
+unfoldable pub next-slot : Name → Plan Frame ℕ
+next-slot n f = after-length (f .object n)
 
 -- how many objects of a share may live
 abbrev pub places : ℕ → ℕ

@@ -78,6 +78,13 @@ pub enum Kall {
     Dlenth { path: Vec<u32> },
     Getdata { path: Vec<u32>, disp: u32, knt: u32 },
     Load { new: u32, path: Vec<u32> },
+    Pass { path: Vec<u32>, cur: u32, mask: Option<u32> },
+    Take { new: u32, path: Vec<u32> },
+    Store { path: Vec<u32>, cur: u32, mask: Option<u32> },
+    Append { path: Vec<u32>, cur: u32, mask: Option<u32> },
+    Passappend { path: Vec<u32>, cur: u32, mask: Option<u32> },
+    Delete { path: Vec<u32> },
+    Interchange { path: Vec<u32>, cur: u32, mask: Option<u32> },
 }
 
 // What a process asks for, with its own buffer; the answer comes with the serving.
