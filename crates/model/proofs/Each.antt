@@ -15,12 +15,46 @@ use Rattle.model.specs.declared.signals.Fault.{Fault}
 use Rattle.model.specs.Model.{World}
 use Rattle.model.specs.Plan.{Plan, after}
 use Rattle.model.specs.Kalls.{
-  Plain, Outcome, plain, block, copied, read-at, kall-lenth, kall-clenth, kall-dlenth, kall-getdata, kall-load,
-  is-just, kall-pass, kall-take, kall-store, kall-append, kall-passappend, kall-delete, kall-interchange, plan
+  Plain,
+  Outcome,
+  plain,
+  block,
+  copied,
+  read-at,
+  kall-lenth,
+  kall-clenth,
+  kall-dlenth,
+  kall-getdata,
+  kall-load,
+  is-just,
+  kall-pass,
+  kall-take,
+  kall-store,
+  kall-append,
+  kall-passappend,
+  kall-delete,
+  kall-interchange,
+  plan,
 }
 use Rattle.model.proofs.Safe.{Setting, level, On, Sound, bind, pure, branch, weaken}
 use Rattle.model.proofs.Views.{
-  here, kept-by, owned-by, fit-loaded, fit-taken, fit-restricted, fit-stored, sound-next-slot, sound-runs, sound-enter, sound-length, sound-list-length, sound-elements, sound-object-at, sound-held, sound-vacant, sound-walk
+  here,
+  kept-by,
+  owned-by,
+  fit-loaded,
+  fit-taken,
+  fit-moved,
+  fit-stored,
+  sound-next-slot,
+  sound-runs,
+  sound-enter,
+  sound-length,
+  sound-list-length,
+  sound-elements,
+  sound-object-at,
+  sound-held,
+  sound-vacant,
+  sound-walk,
 }
 use Rattle.model.proofs.Edits.{Admits-all}
 
@@ -85,7 +119,7 @@ module _ {E : Type 0} (S : Setting) (b : Bool) (p : ℕ) (c : S .cast p ≡ b) w
       bind (sound-held p c _ _ _ here) λ s f.
       bind (sound-walk p c _ _ path) λ t k.
       bind (sound-vacant p c _ _ (k .place)) λ _ _.
-      pure (Ok _) ((k .own tt tt, fit-restricted S (level b true) mask s f), ((tt, tt), tt))
+      pure (Ok _) ((k .own tt tt, fit-moved S (level b true) mask s f), ((tt, tt), tt))
 
   sound-take : (new : ℕ) (path : List ℕ) → Sound {E = E} S b (λ w. kall-take (S .rule) p new path (w .frame)) Good-plain
   sound-take new path =
@@ -99,12 +133,12 @@ module _ {E : Type 0} (S : Setting) (b : Bool) (p : ℕ) (c : S .cast p ≡ b) w
   sound-store path cur mask =
       bind (sound-enter p c _ _) λ _ _.
       branch (is-just cur path)
-        (bind (sound-held p c _ _ _ here) λ s f.
-        pure (Ok _) ((tt, fit-restricted S (level b true) mask s f), tt))
-        (bind (sound-held p c _ _ _ here) λ s f.
-        bind (sound-walk p c _ _ path) λ t k.
-        bind (sound-vacant p c _ _ (k .place)) λ _ _.
-        pure (Ok _) ((k .own tt tt, fit-stored S (level b true) mask s f), tt))
+      (bind (sound-held p c _ _ _ here) λ s f.
+      pure (Ok _) ((tt, fit-moved S (level b true) mask s f), tt))
+      (bind (sound-held p c _ _ _ here) λ s f.
+      bind (sound-walk p c _ _ path) λ t k.
+      bind (sound-vacant p c _ _ (k .place)) λ _ _.
+      pure (Ok _) ((k .own tt tt, fit-stored S (level b true) mask s f), tt))
 
   sound-append : (path : List ℕ) (cur : ℕ) (mask : Option ℕ) → Sound {E = E} S b (λ w. kall-append (S .rule) p path cur mask (w .frame)) Good-plain
   sound-append path cur mask =
@@ -122,7 +156,7 @@ module _ {E : Type 0} (S : Setting) (b : Bool) (p : ℕ) (c : S .cast p ≡ b) w
       bind (sound-walk p c _ _ path) λ t k.
       bind (sound-object-at p c _ _ _ (k .place)) λ x h.
       bind (sound-next-slot (x .name) (kept-by b h)) λ i _.
-      pure (Ok _) ((owned-by k h tt tt tt, fit-restricted S (level b true) mask s f), ((tt, tt), tt))
+      pure (Ok _) ((owned-by k h tt tt tt, fit-moved S (level b true) mask s f), ((tt, tt), tt))
 
   sound-delete : (path : List ℕ) → Sound {E = E} S b (λ w. kall-delete (S .rule) p path (w .frame)) Good-plain
   sound-delete path =
@@ -137,7 +171,7 @@ module _ {E : Type 0} (S : Setting) (b : Bool) (p : ℕ) (c : S .cast p ≡ b) w
       bind (sound-held p c _ _ _ here) λ s f.
       bind (sound-walk p c _ _ path) λ t k.
       bind (sound-held p c _ _ _ (k .place)) λ r h.
-      pure (Ok _) ((tt, fit-taken S b (t .clear) r h), ((k .own tt tt, fit-restricted S (level b true) mask s f), tt))
+      pure (Ok _) ((tt, fit-taken S b (t .clear) r h), ((k .own tt tt, fit-moved S (level b true) mask s f), tt))
 
   pub sound-plan : (k : Kall) (xs : List E) → Sound {E = E} S b (plan (S .rule) p k xs) Good
   sound-plan Lenth xs = plainly sound-lenth

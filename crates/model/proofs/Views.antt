@@ -15,6 +15,7 @@ use Rattle.model.specs.declared.kinds.Cap.{Cap}
 use Rattle.model.specs.declared.kinds.Slot.{Slot}
 use Rattle.model.specs.declared.kinds.Slot.the-variants.{Empty, Capability, Template}
 use Rattle.model.specs.declared.kinds.Space.{Space}
+use Rattle.model.specs.declared.kinds.Change.the-variants.{Taken, Loaded, Moved, Stored}
 use Rattle.model.specs.declared.kinds.Holder.{Holder}
 use Rattle.model.specs.declared.kinds.Holder.the-variants.{Mine, Listed}
 use Rattle.model.specs.declared.signals.Fault.{Fault}
@@ -49,10 +50,12 @@ use Rattle.model.specs.Plan.{
   top-slots,
   length-of,
   list-of,
-  list-length, after-length, next-slot
+  list-length,
+  after-length,
+  next-slot,
 }
 use Rattle.model.specs.Isolation.{If, Look}
-use Rattle.model.specs.Kalls.{on-rights, taken, loaded, masked, restricted, stored}
+use Rattle.model.specs.Kalls.{on-rights, masked, changed}
 use Rattle.model.proofs.Safe.{
   Setting,
   Level,
@@ -147,31 +150,37 @@ module _ (S : Setting) where
   fit-lower false true s h = h
   fit-lower false false s h = fit-any s
 
-  pub fit-taken : (b u : Bool) (s : Slot) → Fit S (level b u) s → Fit S (level b true) (taken (S .rule) u s)
+  modest-restrict : (m : ℕ) → Modest (λ r. S .rule .restrict r m)
+  modest-restrict m r h = (
+    S .laws .restrict-both r m 9 (lit≤ tt) ∙ ap (λ x. x && S .rule .grants m 9) (h .0),
+    S .laws .restrict-both r m 10 (lit≤ tt) ∙ ap (λ x. x && S .rule .grants m 10) (h .1),
+  )
+
+  modest-mask : (mask : Option ℕ) → Modest (masked (S .rule) mask)
+  modest-mask None r h = h
+  modest-mask (Some m) r h = modest-restrict m r h
+
+  -- what a walk brought out fits the caller, once it is confined
+  pub fit-taken : (b u : Bool) (s : Slot) → Fit S (level b u) s → Fit S (level b true) (changed (S .rule) (Taken u) s)
+  unfolding changed
   fit-taken b u Empty h = tt
   fit-taken b u (Template y) h = tt
   fit-taken true u (Capability x) h = h
   fit-taken false true (Capability x) h = h
   fit-taken false false (Capability x) h = λ k. (S .laws .strip-modify (x .rights), S .laws .strip-unconfined (x .rights))
 
-  pub fit-loaded : (b u : Bool) (s : Slot) → Fit S (level b u) s → Fit S (level b true) (loaded (S .rule) u s)
+  pub fit-loaded : (b u : Bool) (s : Slot) → Fit S (level b u) s → Fit S (level b true) (changed (S .rule) (Loaded u) s)
+  unfolding changed
   fit-loaded b u Empty h = tt
   fit-loaded b u (Template y) h = tt
-  fit-loaded b u (Capability x) h = fit-on (level b true) (S .rule .add-delete) (taken (S .rule) u (Capability x)) modest-add (fit-taken b u (Capability x) h)
+  fit-loaded b u (Capability x) h = fit-on (level b true) (S .rule .add-delete) (changed (S .rule) (Taken u) (Capability x)) modest-add (fit-taken b u (Capability x) h)
 
-  pub modest-restrict : (m : ℕ) → Modest (λ r. S .rule .restrict r m)
-  modest-restrict m r h =
-      (S .laws .restrict-both r m 9 (lit≤ tt) ∙ ap (λ x. x && S .rule .grants m 9) (h .0)
-      , S .laws .restrict-both r m 10 (lit≤ tt) ∙ ap (λ x. x && S .rule .grants m 10) (h .1))
+  pub fit-moved : (v : Level) (mask : Option ℕ) (s : Slot) → Fit S v s → Fit S v (changed (S .rule) (Moved mask) s)
+  unfolding changed
+  fit-moved v mask s h = fit-on v (masked (S .rule) mask) s (modest-mask mask) h
 
-  modest-mask : (mask : Option ℕ) → Modest (masked (S .rule) mask)
-  modest-mask None r h = h
-  modest-mask (Some m) r h = modest-restrict m r h
-
-  pub fit-restricted : (v : Level) (mask : Option ℕ) (s : Slot) → Fit S v s → Fit S v (restricted (S .rule) mask s)
-  fit-restricted v mask s h = fit-on v (masked (S .rule) mask) s (modest-mask mask) h
-
-  pub fit-stored : (v : Level) (mask : Option ℕ) (s : Slot) → Fit S v s → Fit S v (stored (S .rule) mask s)
+  pub fit-stored : (v : Level) (mask : Option ℕ) (s : Slot) → Fit S v s → Fit S v (changed (S .rule) (Stored mask) s)
+  unfolding changed
   fit-stored v mask s h = fit-on v (λ r. masked (S .rule) mask (S .rule .add-delete r)) s (λ r k. modest-mask mask (S .rule .add-delete r) (modest-add r k)) h
 
 -- a place that the caller reached

@@ -15,6 +15,8 @@ use Rattle.model.specs.declared.kinds.Cap.{Cap}
 use Rattle.model.specs.declared.kinds.Slot.{Slot}
 use Rattle.model.specs.declared.kinds.Slot.the-variants.{Empty, Capability, Template}
 use Rattle.model.specs.declared.kinds.Space.{Space}
+use Rattle.model.specs.declared.kinds.Change.{Change}
+use Rattle.model.specs.declared.kinds.Change.the-variants.{Taken, Loaded, Moved, Stored}
 use Rattle.model.specs.declared.kinds.Holder.{Holder}
 use Rattle.model.specs.declared.kinds.Holder.the-variants.{Mine, Listed}
 use Rattle.model.specs.declared.kinds.Kall.{Kall}
@@ -106,30 +108,28 @@ pub record Outcome (E : Type 0) : Type 0 where
   pub buffer : Option (List E)
   pub edits : List (Edit E)
 
--- a copy that a walk brought out: stripped unless the way was clear, and delete added
-abbrev pub on-rights : (ℕ → ℕ) → Slot → Slot
-on-rights g Empty = Empty
-on-rights g (Capability c) = Capability (record { name = c .name; rights = g (c .rights) })
-on-rights g (Template t) = Template (record { rights = g (t .rights); wanted = t .wanted; check = t .check; new = t .new })
-
-abbrev pub loaded : Rule → Bool → Slot → Slot
-loaded rule clear s = on-rights (λ r. rule .add-delete (cond clear r (rule .strip r))) s
-
--- a slot that a walk took out: stripped unless the way was clear
-abbrev pub taken : Rule → Bool → Slot → Slot
-taken rule clear s = on-rights (λ r. cond clear r (rule .strip r)) s
-
 -- under a mask, where one is given
 abbrev pub masked : Rule → Option ℕ → ℕ → ℕ
 masked rule None r = r
 masked rule (Some m) r = rule .restrict r m
 
-abbrev pub restricted : Rule → Option ℕ → Slot → Slot
-restricted rule mask s = on-rights (λ r. masked rule mask r) s
+-- what was reached is stripped unless the way was clear
+abbrev pub confined : Rule → Bool → ℕ → ℕ
+confined rule clear r = cond clear r (rule .strip r)
 
--- a copy: delete added, then under the mask
-abbrev pub stored : Rule → Option ℕ → Slot → Slot
-stored rule mask s = on-rights (λ r. masked rule mask (rule .add-delete r)) s
+abbrev pub recode : Rule → Change → ℕ → ℕ
+recode rule (Taken clear) r = confined rule clear r
+recode rule (Loaded clear) r = rule .add-delete (confined rule clear r)
+recode rule (Moved mask) r = masked rule mask r
+recode rule (Stored mask) r = masked rule mask (rule .add-delete r)
+
+abbrev pub on-rights : (ℕ → ℕ) → Slot → Slot
+on-rights g Empty = Empty
+on-rights g (Capability c) = Capability (record { name = c .name; rights = g (c .rights) })
+on-rights g (Template t) = Template (record { rights = g (t .rights); wanted = t .wanted; check = t .check; new = t .new })
+
+unfoldable pub changed : Rule → Change → Slot → Slot
+changed rule ch s = on-rights (recode rule ch) s
 
 -- the path is the one index i
 abbrev pub is-just : ℕ → List ℕ → Bool
@@ -194,7 +194,7 @@ module _ {E : Type 0} (rule : Rule) (p : ℕ) where
     vacant p Mine new 0
     t ← walk rule (loadrts ∷ []) (loadrts ∷ []) p path
     s ← held rule [] p (t .holder) (t .index) (t .at)
-    done (pos 0) (put Mine new (loaded rule (t .clear) s) ∷ [])
+    done (pos 0) (put Mine new (changed rule (Loaded (t .clear)) s) ∷ [])
 
   abbrev pub kall-pass : List ℕ → ℕ → Option ℕ → Plan Frame (Plain E)
   kall-pass path cur mask = do
@@ -202,7 +202,7 @@ module _ {E : Type 0} (rule : Rule) (p : ℕ) where
     s ← held rule (dltrts ∷ leaving path) p Mine cur 0
     t ← walk rule writing (storts ∷ mdfyrts ∷ []) p path
     vacant p (t .holder) (t .index) (t .at)
-    done (pos 0) (put (t .holder) (t .index) (restricted rule mask s) ∷ put Mine cur Empty ∷ [])
+    done (pos 0) (put (t .holder) (t .index) (changed rule (Moved mask) s) ∷ put Mine cur Empty ∷ [])
 
   abbrev pub kall-take : ℕ → List ℕ → Plan Frame (Plain E)
   kall-take new path = do
@@ -210,20 +210,20 @@ module _ {E : Type 0} (rule : Rule) (p : ℕ) where
     vacant p Mine new 0
     t ← walk rule writing (killrts ∷ loadrts ∷ mdfyrts ∷ []) p path
     s ← held rule (dltrts ∷ []) p (t .holder) (t .index) (t .at)
-    done (pos 0) (put Mine new (taken rule (t .clear) s) ∷ put (t .holder) (t .index) Empty ∷ [])
+    done (pos 0) (put Mine new (changed rule (Taken (t .clear)) s) ∷ put (t .holder) (t .index) Empty ∷ [])
 
   -- in place, and elsewhere
   abbrev pub store-here : ℕ → Option ℕ → Plan Frame (Plain E)
   store-here cur mask = do
     s ← held rule (dltrts ∷ []) p Mine cur 0
-    done (pos 0) (put Mine cur (restricted rule mask s) ∷ [])
+    done (pos 0) (put Mine cur (changed rule (Moved mask) s) ∷ [])
 
   abbrev pub store-there : List ℕ → ℕ → Option ℕ → Plan Frame (Plain E)
   store-there path cur mask = do
     s ← held rule (leaving path) p Mine cur 0
     t ← walk rule writing (storts ∷ mdfyrts ∷ []) p path
     vacant p (t .holder) (t .index) (t .at)
-    done (pos 0) (put (t .holder) (t .index) (stored rule mask s) ∷ [])
+    done (pos 0) (put (t .holder) (t .index) (changed rule (Stored mask) s) ∷ [])
 
   abbrev pub kall-store : List ℕ → ℕ → Option ℕ → Plan Frame (Plain E)
   kall-store path cur mask = do
@@ -237,7 +237,7 @@ module _ {E : Type 0} (rule : Rule) (p : ℕ) where
     t ← walk rule writing writing p path
     c ← object-at rule (mdfyrts ∷ apprts ∷ []) p (t .holder) (t .index) (t .at)
     i ← next-slot (c .name)
-    done (pos 0) (put (Listed (c .name)) i (stored rule mask s) ∷ [])
+    done (pos 0) (put (Listed (c .name)) i (changed rule (Stored mask) s) ∷ [])
 
   abbrev pub kall-passappend : List ℕ → ℕ → Option ℕ → Plan Frame (Plain E)
   kall-passappend path cur mask = do
@@ -246,7 +246,7 @@ module _ {E : Type 0} (rule : Rule) (p : ℕ) where
     t ← walk rule writing writing p path
     c ← object-at rule (mdfyrts ∷ apprts ∷ []) p (t .holder) (t .index) (t .at)
     i ← next-slot (c .name)
-    done (pos 0) (put (Listed (c .name)) i (restricted rule mask s) ∷ put Mine cur Empty ∷ [])
+    done (pos 0) (put (Listed (c .name)) i (changed rule (Moved mask) s) ∷ put Mine cur Empty ∷ [])
 
   abbrev pub kall-delete : List ℕ → Plan Frame (Plain E)
   kall-delete path = do
@@ -261,7 +261,7 @@ module _ {E : Type 0} (rule : Rule) (p : ℕ) where
     s ← held rule (dltrts ∷ []) p Mine cur 0
     t ← walk rule writing (mdfyrts ∷ killrts ∷ loadrts ∷ storts ∷ []) p path
     r ← held rule (dltrts ∷ []) p (t .holder) (t .index) (t .at)
-    done (pos 0) (put Mine cur (taken rule (t .clear) r) ∷ put (t .holder) (t .index) (restricted rule mask s) ∷ [])
+    done (pos 0) (put Mine cur (changed rule (Taken (t .clear)) r) ∷ put (t .holder) (t .index) (changed rule (Moved mask) s) ∷ [])
 
 -- a kall that leaves the buffer alone
 abbrev pub plain : {E : Type 0} → Result (Plain E) Fault → Result (Outcome E) Fault

@@ -57,6 +57,19 @@ pub struct Target {
     pub at: u8,
 }
 
+// How a slot's rights code changes on the slot's way.
+#[derive(Clone, Copy)]
+pub enum Change {
+    // Taken out: stripped unless the way was clear.
+    Taken { clear: bool },
+    // Copied out: the same, and delete added.
+    Loaded { clear: bool },
+    // Moved: restricted by the mask.
+    Moved { mask: Option<u32> },
+    // Copied: delete added, then restricted.
+    Stored { mask: Option<u32> },
+}
+
 // Whose slot set-up fills: a process's or a house object's, by its number.
 #[derive(Clone, Copy)]
 pub enum Owner {
@@ -74,17 +87,53 @@ pub struct Limits {
 #[derive(Drop)]
 pub enum Kall {
     Lenth,
-    Clenth { path: Vec<u32> },
-    Dlenth { path: Vec<u32> },
-    Getdata { path: Vec<u32>, disp: u32, knt: u32 },
-    Load { new: u32, path: Vec<u32> },
-    Pass { path: Vec<u32>, cur: u32, mask: Option<u32> },
-    Take { new: u32, path: Vec<u32> },
-    Store { path: Vec<u32>, cur: u32, mask: Option<u32> },
-    Append { path: Vec<u32>, cur: u32, mask: Option<u32> },
-    Passappend { path: Vec<u32>, cur: u32, mask: Option<u32> },
-    Delete { path: Vec<u32> },
-    Interchange { path: Vec<u32>, cur: u32, mask: Option<u32> },
+    Clenth {
+        path: Vec<u32>,
+    },
+    Dlenth {
+        path: Vec<u32>,
+    },
+    Getdata {
+        path: Vec<u32>,
+        disp: u32,
+        knt: u32,
+    },
+    Load {
+        new: u32,
+        path: Vec<u32>,
+    },
+    Pass {
+        path: Vec<u32>,
+        cur: u32,
+        mask: Option<u32>,
+    },
+    Take {
+        new: u32,
+        path: Vec<u32>,
+    },
+    Store {
+        path: Vec<u32>,
+        cur: u32,
+        mask: Option<u32>,
+    },
+    Append {
+        path: Vec<u32>,
+        cur: u32,
+        mask: Option<u32>,
+    },
+    Passappend {
+        path: Vec<u32>,
+        cur: u32,
+        mask: Option<u32>,
+    },
+    Delete {
+        path: Vec<u32>,
+    },
+    Interchange {
+        path: Vec<u32>,
+        cur: u32,
+        mask: Option<u32>,
+    },
 }
 
 // What a process asks for, with its own buffer; the answer comes with the serving.

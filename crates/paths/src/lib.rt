@@ -1,3 +1,4 @@
 pub mod grants;
+pub mod recode;
 pub mod slots;
 pub mod walk;

@@ -6,10 +6,14 @@ use crate::slots::object_at;
 use crate::slots::path_ok;
 use model::kinds::Holder;
 use model::kinds::Target;
+use model::rights::LOADRTS;
 use model::rights::UCNFRTS;
 use model::signals::Fault;
 use rights::rule::RightsRule;
 use scene::opened::Scene;
+
+// What a writing walk wants of its steps, and of its pretarget where nothing else is named.
+pub const WRITING: [u8; 2] = [LOADRTS, UCNFRTS];
 
 // From the first index on, `step` asked of steps and `last` of the pretarget; the
 // first failure ends it.

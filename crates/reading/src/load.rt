@@ -1,14 +1,12 @@
 // The kall that copies a slot into the current name space.
 ghost use mathlib.Core.Path.{_≡_};
-ghost use mathlib.Core.Bool.{cond};
-ghost use Rattle.model.specs.Kalls.{ended, loaded, kall-load};
+ghost use Rattle.model.specs.Kalls.{ended, kall-load};
 ghost use Rattle.scene.specs.Abstract.{frame, world};
-use model::kinds::Cap;
-use model::kinds::Form;
+use model::kinds::Change;
 use model::kinds::Holder;
-use model::kinds::Slot;
 use model::rights::LOADRTS;
 use model::signals::Fault;
+use paths::recode::changed;
 use paths::slots::enter;
 use paths::slots::held;
 use paths::walk::walk;
@@ -16,29 +14,6 @@ use rights::rule::RightsRule;
 use scene::opened::Scene;
 use scene::opened::Slip;
 use shelf::traits::ReadableShelf;
-
-fn loaded_rights<R: RightsRule>(rule: &R, clear: bool, code: u32) -> u32
-    ensures { λ r. ⌜ r ≡ R·RightsRule .rule .«add-delete» (cond clear code (R·RightsRule .rule .strip code)) ⌝ }
-{
-    rule.with_delete(if clear { code } else { rule.stripped(code) })
-}
-
-// A copy that a walk brought out.
-fn loaded<R: RightsRule>(rule: &R, clear: bool, slot: Slot) -> Slot
-    ensures { λ r. ⌜ r ≡ loaded (R·RightsRule .rule) clear slot ⌝ }
-{
-    match slot {
-        Slot::Empty => Slot::Empty,
-        Slot::Capability(cap) => Slot::Capability(Cap {
-            name: cap.name,
-            rights: loaded_rights(rule, clear, cap.rights),
-        }),
-        Slot::Template(form) => Slot::Template(Form {
-            rights: loaded_rights(rule, clear, form.rights),
-            ..form
-        }),
-    }
-}
 
 pub fn load<R: RightsRule, S: ReadableShelf>(
     scene: &mut Scene<R>,
@@ -54,7 +29,13 @@ pub fn load<R: RightsRule, S: ReadableShelf>(
     scene.tables.vacant(process, Holder::Mine, new, 0)?;
     let target = walk(scene, &[LOADRTS], &[LOADRTS], process, path)?;
     let slot = held(scene, &[], process, target.holder, target.index, target.at)?;
-    let copy = loaded(&scene.rule, target.clear, slot);
+    let copy = changed(
+        &scene.rule,
+        Change::Loaded {
+            clear: target.clear,
+        },
+        slot,
+    );
     scene.tables.put_in(process, Holder::Mine, new, copy);
     Ok(0)
 }

@@ -5,7 +5,7 @@ ghost use lib.ListN.{length, replicate};
 ghost use Rattle.model.specs.declared.kinds.Slot.the-variants.{Empty};
 ghost use Rattle.std.specs.declared.result.Result.the-variants.{Ok};
 ghost use Rattle.std.specs.Vec.{made as Made};
-ghost use Rattle.model.specs.Plan.{slot-of, own-slot, slot-at, runs, vacant, lives, last-filled, length-of, list-length, places};
+ghost use Rattle.model.specs.Plan.{slot-of, own-slot, slot-at, runs, vacant, lives, last-filled, length-of, list-length, next-slot, places};
 ghost use Rattle.model.specs.Kalls.{put-own, put-listed, put-in};
 ghost use Rattle.model.specs.SetUp.{bare, unenrolled, enrol, enrolled, owned, living, Sets};
 ghost use Rattle.scene.specs.Places.{base-of, seek, place-of, Within};
@@ -241,6 +241,20 @@ impl Tables {
             return 0;
         };
         last_filled(&self.slots[8 * place..8 * place + 8])
+    }
+
+    // The slot after a list's length, by its index from 1.
+    pub fn next_slot(&self, name: Name) -> Result<u32, Fault>
+        ensures { λ r. ⌜ r ≡ next-slot name (frame (now (self .entry))) ⌝ }
+    {
+        let Some(place) = self.find(name) else {
+            return Err(Fault::new(Signal::Slim, 0));
+        };
+        let length = last_filled(&self.slots[8 * place..8 * place + 8]);
+        if length >= room(self.objects[place].kind) {
+            return Err(Fault::new(Signal::Slim, 0));
+        }
+        Ok(length as u32 + 1)
     }
 
     // Where on the shelf an object's elements lie.
