@@ -10,7 +10,15 @@ ghost use Rattle.run.specs.Play.{ask, view, told, played, afterwards};
 use model::kinds::Kall;
 use model::kinds::Request;
 use model::signals::Fault;
+use moving::moves::delete;
+use moving::moves::interchange;
+use moving::moves::pass;
+use moving::moves::take;
+use reading::data::getdata;
+use reading::lengths::clenth;
+use reading::lengths::dlenth;
 use reading::lengths::lenth;
+use reading::load::load;
 use rights::rule::RightsRule;
 use scene::opened::Reckoning;
 use scene::opened::Scene;
@@ -19,6 +27,9 @@ use scene::opened::open;
 use scene::opened::reckon;
 use scene::setup::SetUp;
 use shelf::traits::WritableShelf;
+use storing::stores::append;
+use storing::stores::passappend;
+use storing::stores::store;
 
 fn perform<R: RightsRule, S: WritableShelf>(
     scene: &mut Scene<R>,
@@ -32,6 +43,66 @@ fn perform<R: RightsRule, S: WritableShelf>(
 {
     match kall {
         Kall::Lenth => lenth(scene, slip, shelf, process),
+        Kall::Clenth { path } => clenth(scene, slip, shelf, process, path.as_slice()),
+        Kall::Dlenth { path } => dlenth(scene, slip, shelf, process, path.as_slice()),
+        Kall::Getdata { path, disp, knt } => getdata(
+            scene,
+            slip,
+            shelf,
+            process,
+            path.as_slice(),
+            *disp,
+            *knt,
+            buffer.as_mut_slice(),
+        ),
+        Kall::Load { new, path } => load(scene, slip, shelf, process, *new, path.as_slice()),
+        Kall::Pass { path, cur, mask } => pass(
+            scene,
+            slip,
+            shelf,
+            process,
+            path.as_slice(),
+            *cur,
+            *mask,
+        ),
+        Kall::Take { new, path } => take(scene, slip, shelf, process, *new, path.as_slice()),
+        Kall::Store { path, cur, mask } => store(
+            scene,
+            slip,
+            shelf,
+            process,
+            path.as_slice(),
+            *cur,
+            *mask,
+        ),
+        Kall::Append { path, cur, mask } => append(
+            scene,
+            slip,
+            shelf,
+            process,
+            path.as_slice(),
+            *cur,
+            *mask,
+        ),
+        Kall::Passappend { path, cur, mask } => passappend(
+            scene,
+            slip,
+            shelf,
+            process,
+            path.as_slice(),
+            *cur,
+            *mask,
+        ),
+        Kall::Delete { path } => delete(scene, slip, shelf, process, path.as_slice()),
+        Kall::Interchange { path, cur, mask } => interchange(
+            scene,
+            slip,
+            shelf,
+            process,
+            path.as_slice(),
+            *cur,
+            *mask,
+        ),
     }
 }
 
