@@ -1,5 +1,5 @@
 -- What the table of lengths answers is what the sequences answer: h holds sequences, and ls has the length of place p's.
-use mathlib.Core.Path.{_≡_, refl, sym, ap, subst, _∙_}
+use mathlib.Core.Path.{_≡_, refl, sym, ap, _∙_}
 use mathlib.Core.List.{List, [], _∷_, _++_}
 use mathlib.Core.Bool.{Bool, true, false, _&&_, cond}
 use mathlib.Core.Logic.{⊎-elim}
@@ -14,21 +14,7 @@ use Rattle.std.proofs.shelf.Maps.{nth-read, nth-past}
 use Rattle.std.specs.declared.result.Result.{Result}
 use Rattle.std.specs.declared.result.Result.the-variants.{Ok, Err}
 use Rattle.model.specs.declared.signals.Fault.{Fault}
-use Rattle.shelf.specs.Places.{
-  is-place,
-  is-index,
-  if-so,
-  greatest,
-  refusal,
-  with-place,
-  found,
-  length-at,
-  element-at,
-  replaced,
-  appended,
-  cleared,
-  Writes,
-}
+use Rattle.shelf.specs.Places.{is-place, is-index, if-so, greatest, refusal, with-place, found, length-at, element-at, replaced, appended, cleared, Writes}
 use Rattle.std.specs.Vec.{made}
 use Rattle.std.specs.Results.{ErrBy}
 use Rattle.std.proofs.shelf.Results.{err-from-errBy}
@@ -44,7 +30,7 @@ not-told true x e h = let z : _≡_ {A = ℕ} 0 1 = cc in absurd (omega arith)
 not-told false x e h = (refl, cc)
 
 -- one test, one refusal
-pub refused : {A B : Type 0} (b : Bool) (x : A) (y : B) (e : Fault) → Err e ≡ if-so b x → Err e ≡ if-so b y
+refused : {A B : Type 0} (b : Bool) (x : A) (y : B) (e : Fault) → Err e ≡ if-so b x → Err e ≡ if-so b y
 refused b x y e h = let t = not-told b x e h in rw (t .0, t .1)
 
 -- the exit of a `?`
@@ -58,8 +44,6 @@ writes-no h m e (Err y) q w = (ap Err q ∙ w, refl)
 -- what an index that was found tells
 pub record Index (ls : List ℕ) (p i k : ℕ) : Type 0 where
   pub place : is-place p ≡ true
-  pub low : 1 ≤ p
-  pub high : p ≤ 160
   pub from-one : 1 ≤ i
   pub is : k ≡ i - 1
   pub below : k < getD ls (p - 1) 0
@@ -67,7 +51,7 @@ pub record Index (ls : List ℕ) (p i k : ℕ) : Type 0 where
 pub index-told : (ls : List ℕ) (p i k : ℕ) → Ok k ≡ kept-index p i ls → Index ls p i k
 index-told ls p i k e =
     let t = told (is-place p && (leb 1 i && leb i (getD ls (p - 1) 0))) (i - 1) k e in
-    record { place = grind (arith, tells, t .0); low = grind (arith, tells, t .0); high = grind (arith, tells, t .0); from-one = grind (arith, tells, t .0); is = t .1; below = grind (arith, tells, t .0, t .1) }
+    record { place = grind (arith, tells, t .0); from-one = grind (arith, tells, t .0); is = t .1; below = grind (arith, tells, t .0, t .1) }
 
 pub room-told : (ls : List ℕ) (p n : ℕ) → Ok n ≡ kept-room p ls → (is-place p ≡ true) × (n ≡ getD ls (p - 1) 0) × (n < greatest)
 room-told ls p n e =

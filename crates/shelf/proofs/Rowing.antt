@@ -1,15 +1,15 @@
 -- Sequences in rows of 64 cells.
 use mathlib.Core.Path.{_≡_, refl, sym, ap, _∙_}
 use mathlib.Core.List.{List, [], _∷_, _++_}
-use mathlib.Core.Bool.{Bool, true}
+use mathlib.Core.Bool.{true}
 use mathlib.Core.Logic.{⊎-elim}
-use Prim.Native.Nat.{ℕ, _+_, _-_, _*_, _≤_, _<_}
+use Prim.Native.Nat.{ℕ, _+_, _-_, _≤_, _<_}
 use native.Mathlib.Omega.{arith}
 use lib.ListN.{length, getD, set}
 use Rattle.std.proofs.shelf.Lists.{length-set, getD-set-same, getD-set-other}
 use Rattle.std.proofs.shelf.Tests.{cases-order}
 use Rattle.shelf.specs.Places.{is-place, with-place, greatest, most}
-use Rattle.shelf.specs.Kept.{Short, lot, laid, row, rows}
+use Rattle.shelf.specs.Kept.{Short, lot, row, rows}
 use Rattle.shelf.proofs.Answering.{place-told}
 use Rattle.shelf.proofs.Laying.{lot-same, lot-push, lot-set, laid-at, laid-size, laid-wrote}
 

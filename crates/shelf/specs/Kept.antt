@@ -1,7 +1,8 @@
 -- How sequences lie in cells, by a table of their lengths. Place p's length is at p - 1.
+use mathlib.Core.Path.{_≡_}
 use mathlib.Core.List.{List, [], _∷_}
 use mathlib.Core.Bool.{_&&_, cond}
-use Prim.Native.Nat.{ℕ, _-_, _*_, _≤_}
+use Prim.Native.Nat.{ℕ, zero, suc, _+_, _-_, _*_, _≤_, _<_}
 use lib.Dec.{leb, ltb}
 use lib.ListN.{length, getD, take, drop}
 use Rattle.std.specs.declared.result.Result.{Result}
@@ -24,6 +25,21 @@ row p = 64 * (p - 1)
 
 abbrev pub rows : {E : Type 0} → List ℕ → List E → ℕ → List E
 rows lengths cells = laid row lengths cells
+
+-- the sum of the first i lengths
+abbrev pub before : List ℕ → ℕ → ℕ
+before ls zero = 0
+before [] (suc i) = 0
+before (n ∷ ls) (suc i) = n + before ls i
+
+abbrev pub packed : {E : Type 0} → List ℕ → List E → ℕ → List E
+packed lengths cells = laid (λ p. before lengths (p - 1)) lengths cells
+
+-- ys is xs with the cells from `from` on, up to `to`, moved to `at`; those before both stay
+pub record Shifted {E : Type 0} (from to at : ℕ) (xs ys : List E) : Type 0 where
+  pub size : length ys ≡ length xs
+  pub low : (k : ℕ) (d : E) → k < from → k < at → getD ys k d ≡ getD xs k d
+  pub moved : (j : ℕ) (d : E) → from + j < to → getD ys (at + j) d ≡ getD xs (from + j) d
 
 -- a place's length, an index of it from 0, and its length if it can grow; else the refusal
 abbrev pub kept-length : ℕ → List ℕ → Result ℕ Fault

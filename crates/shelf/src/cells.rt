@@ -7,9 +7,9 @@ ghost use Rattle.std.specs.Results.{mapped};
 ghost use Rattle.shelf.specs.Places.{most, counted};
 use crate::lengths::Lengths;
 use crate::lengths::refusal;
+use crate::traits::LONGEST;
+use crate::traits::PLACES;
 use model::signals::Fault;
-
-const MOST: usize = 10240;
 
 #[derive(Drop)]
 pub struct Cells<'a, E> {
@@ -25,11 +25,19 @@ pub struct Rows<'a, E> {
     ghost enough: { most ≤ length (now cells) },
 }
 
+// The sequences end to end, in the order of their places.
+#[derive(Drop)]
+pub struct Packed<'a, E> {
+    pub(crate) cells: &'a mut [E],
+    pub(crate) lengths: Lengths,
+    ghost enough: { most ≤ length (now cells) },
+}
+
 impl<'a, E> Cells<'a, E> {
     pub fn counted(cells: &'a mut [E]) -> Result<Cells<'a, E>, Fault>
         ensures { λ r. ⌜ mapped (λ c. now (c .cells)) (λ e. e) r ≡ counted (now (cells .entry)) ⌝ }
     {
-        if cells.len() < MOST {
+        if cells.len() < PLACES * LONGEST {
             return Err(refusal());
         }
         Ok(Cells { cells })

@@ -1,15 +1,17 @@
 // The lengths of the sequences by places, and every refusal of a shelf.
 ghost use lib.ListN.{length, getD, set, replicate};
 ghost use mathlib.Core.Path.{_≡_};
-ghost use Prim.Native.Nat.{ℕ, _+_, _-_, _≤_, _<_};
-ghost use Rattle.shelf.specs.Places.{greatest, refusal, «is-place», «if-so»};
-ghost use Rattle.shelf.specs.Kept.{Short, «kept-length», «kept-index», «kept-room»};
+ghost use Prim.Native.Nat.{_+_, _-_, _≤_, _<_};
+ghost use Rattle.shelf.specs.Places.{greatest, most, refusal};
+ghost use Rattle.shelf.specs.Kept.{Short, before, «kept-length», «kept-index», «kept-room»};
+use crate::traits::LONGEST;
+use crate::traits::PLACES;
 use model::signals::Fault;
 use model::signals::Signal;
 
 #[derive(Drop)]
 pub(crate) struct Lengths {
-    table: [u8; 160],
+    table: [u8; PLACES],
     ghost short: { Short table },
     ghost whole: { 160 ≤ length table },
 }
@@ -24,14 +26,14 @@ impl Lengths {
     pub(crate) fn new() -> Lengths
         ensures { λ r. ⌜ r .table ≡ replicate 160 0 ⌝ }
     {
-        Lengths { table: [0; 160] }
+        Lengths { table: [0; PLACES] }
     }
 
     // The length of the sequence at a place.
     pub(crate) fn of(&self, place: usize) -> Result<usize, Fault>
         ensures { λ r. ⌜ r ≡ «kept-length» place (now (self .entry) .table) ⌝ }
     {
-        if place < 1 || place > 160 {
+        if place < 1 || place > PLACES {
             return Err(refusal());
         }
         Ok(self.table[place - 1] as usize)
@@ -53,10 +55,30 @@ impl Lengths {
         ensures { λ r. ⌜ r ≡ «kept-room» place (now (self .entry) .table) ⌝ }
     {
         let n = self.of(place)?;
-        if n >= 64 {
+        if n >= LONGEST {
             return Err(refusal());
         }
         Ok(n)
+    }
+
+    // The sum of the lengths of the places before one.
+    pub(crate) fn before(&self, place: usize) -> usize
+        requires { ⌜ 1 ≤ place ⌝ ∗ ⌜ place ≤ 160 ⌝ }
+        ensures sum { λ r. ⌜ r ≡ before (now (self .entry) .table) (place - 1) ⌝ }
+        ensures fits { λ r. ⌜ r + getD (now (self .entry) .table) (place - 1) 0 ≤ most ⌝ }
+    {
+        let mut sum = 0;
+        for n in &self.table[..place - 1] {
+            sum += *n as usize;
+        }
+        sum
+    }
+
+    pub(crate) fn total(&self) -> usize
+        ensures sum { λ r. ⌜ r ≡ before (now (self .entry) .table) 160 ⌝ }
+        ensures fits { λ r. ⌜ r ≤ most ⌝ }
+    {
+        self.before(PLACES) + self.table[PLACES - 1] as usize
     }
 
     pub(crate) fn set(&mut self, place: usize, n: usize)

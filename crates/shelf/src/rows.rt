@@ -5,6 +5,7 @@ ghost use Rattle.shelf.specs.Held.{«in-rows»};
 use crate::cells::Cells;
 pub use crate::cells::Rows;
 use crate::lengths::Lengths;
+use crate::traits::LONGEST;
 use crate::traits::ReadableShelf;
 use crate::traits::WritableShelf;
 use model::signals::Fault;
@@ -14,9 +15,10 @@ impl<'a, E> Rows<'a, E> {
         ensures { λ r. ⌜ «in-rows» r ≡ (λ _. []) ⌝ }
     {
         let lent = cells.cells;
+        let lengths = Lengths::new();
         Rows {
             cells: lent,
-            lengths: Lengths::new(),
+            lengths,
         }
     }
 }
@@ -32,20 +34,20 @@ pub impl<'a, E: Copy> ReadableShelf for Rows<'a, E> as RowsRead {
 
     fn element(&mut self, place: usize, index: usize) -> Result<E, Fault> {
         let at = self.lengths.within(place, index)?;
-        Ok(self.cells[64 * (place - 1) + at])
+        Ok(self.cells[LONGEST * (place - 1) + at])
     }
 }
 
 pub impl<'a, E: Copy> WritableShelf for Rows<'a, E> as RowsWrite {
     fn replace(&mut self, place: usize, index: usize, element: E) -> Result<(), Fault> {
         let at = self.lengths.within(place, index)?;
-        self.cells[64 * (place - 1) + at] = element;
+        self.cells[LONGEST * (place - 1) + at] = element;
         Ok(())
     }
 
     fn append(&mut self, place: usize, element: E) -> Result<(), Fault> {
         let n = self.lengths.room(place)?;
-        self.cells[64 * (place - 1) + n] = element;
+        self.cells[LONGEST * (place - 1) + n] = element;
         self.lengths.set(place, n + 1);
         Ok(())
     }

@@ -7,6 +7,10 @@ ghost use Rattle.std.specs.Vec.{made};
 ghost use Rattle.shelf.specs.Places.{greatest, «length-at», «element-at», replaced, appended, cleared, Writes};
 use model::signals::Fault;
 
+pub const PLACES: usize = 160;
+
+pub const LONGEST: usize = 64;
+
 // A question may change how a shelf keeps its elements, but no sequence.
 pub trait ReadableShelf {
     type Element: Copy;

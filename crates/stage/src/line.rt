@@ -20,39 +20,25 @@ pub(crate) enum Line<E> {
     Reckon,
 }
 
-fn elements<E: Element>(heap: Global, words: &[&str]) -> Result<Vec<E>, Wrong> {
-    let mut elements = Vec::new(heap);
-    for word in words {
-        elements.push(E::read(word)?)?;
-    }
-    Ok(elements)
-}
-
-// The words before the colon, and the buffer after it.
-fn cut<'w, 't, E: Element>(
-    heap: Global,
-    words: &'w [&'t str],
-) -> Result<(&'w [&'t str], Buffer<E>), Wrong> {
+// The words before the colon, and those after it.
+fn cut<'w, 't>(words: &'w [&'t str]) -> (&'w [&'t str], Option<&'w [&'t str]>) {
     for (i, word) in words.iter().enumerate() {
         if *word == ":" {
-            let elements = elements(heap, &words[i + 1..])?;
-            return Ok((
-                &words[0..i],
-                Buffer {
-                    elements,
-                    colon: true,
-                },
-            ));
+            return (&words[0..i], Some(&words[i + 1..]));
         }
     }
-    let elements = Vec::new(heap);
-    Ok((
-        words,
-        Buffer {
-            elements,
-            colon: false,
-        },
-    ))
+    (words, None)
+}
+
+fn read_buffer<E: Element>(heap: Global, words: Option<&[&str]>) -> Result<Buffer<E>, Wrong> {
+    let mut elements = Vec::new(heap);
+    for word in words.unwrap_or(&[]) {
+        elements.push(E::read(word)?)?;
+    }
+    Ok(Buffer {
+        elements,
+        colon: words.is_some(),
+    })
 }
 
 fn owner(whose: &str, number: u32) -> Result<Owner, Wrong> {
@@ -94,31 +80,46 @@ fn kall(name: &str, arguments: &[&str]) -> Result<Kall, Wrong> {
     }
 }
 
-// A line with a buffer, or one that may have it.
-fn with_buffer<E: Element>(words: &[&str], buffer: Buffer<E>) -> Result<Line<E>, Wrong> {
+fn make<E: Element>(
+    heap: Global,
+    kind: &str,
+    count: &str,
+    buffer: Option<&[&str]>,
+) -> Result<Command<E>, Wrong> {
+    Ok(Command::Make {
+        kind: number(kind)?,
+        count: number(count)?,
+        buffer: read_buffer(heap, buffer)?,
+    })
+}
+
+// The process first, then the kall's name and its arguments.
+fn ask<E: Element>(
+    heap: Global,
+    words: &[&str],
+    buffer: Option<&[&str]>,
+) -> Result<Line<E>, Wrong> {
+    let [process, name, ..] = words else {
+        return Err(Wrong::Form);
+    };
+    let kall = kall(name, &words[2..])?;
+    let process = number(process)?;
+    let Buffer { elements, colon } = read_buffer(heap, buffer)?;
+    let request = Request {
+        process,
+        kall,
+        buffer: elements,
+        answer: None,
+    };
+    Ok(Line::Asks(request, colon))
+}
+
+// A line that may end in a buffer.
+fn read_with_buffer<E: Element>(heap: Global, words: &[&str]) -> Result<Line<E>, Wrong> {
+    let (words, buffer) = cut(words);
     match words {
-        ["make", kind, count] => {
-            let kind = number(kind)?;
-            let count = number(count)?;
-            Ok(Line::SetUp(Command::Make {
-                kind,
-                count,
-                buffer,
-            }))
-        }
-        [process, name, arguments @ ..] => {
-            let kall = kall(name, arguments)?;
-            let process = number(process)?;
-            let Buffer { elements, colon } = buffer;
-            let request = Request {
-                process,
-                kall,
-                buffer: elements,
-                answer: None,
-            };
-            Ok(Line::Asks(request, colon))
-        }
-        _ => Err(Wrong::Form),
+        ["make", kind, count] => Ok(Line::SetUp(make(heap, kind, count, buffer)?)),
+        _ => ask(heap, words, buffer),
     }
 }
 
@@ -138,9 +139,6 @@ pub(crate) fn read_line<E: Element>(heap: Global, words: &[&str]) -> Result<Line
         }
         ["open"] => Ok(Line::Open),
         ["reckon"] => Ok(Line::Reckon),
-        _ => {
-            let (words, buffer) = cut(heap, words)?;
-            with_buffer(words, buffer)
-        }
+        _ => read_with_buffer(heap, words),
     }
 }

@@ -7,6 +7,8 @@ mod parse;
 mod play;
 mod print;
 mod script;
+#[cfg(test)]
+mod tests;
 mod words;
 mod wrong;
 

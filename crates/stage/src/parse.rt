@@ -19,7 +19,53 @@ enum Part {
     Reckoned,
 }
 
-// Takes a line into the script, where it may stand there.
+fn in_set_up(part: Part) -> Result<(), Wrong> {
+    match part {
+        Part::SetUp => Ok(()),
+        Part::Opened => Err(Wrong::AfterOpen),
+        Part::Reckoned => Err(Wrong::AfterReckon),
+    }
+}
+
+fn in_play(part: Part) -> Result<(), Wrong> {
+    match part {
+        Part::SetUp => Err(Wrong::BeforeOpen),
+        Part::Opened => Ok(()),
+        Part::Reckoned => Err(Wrong::AfterReckon),
+    }
+}
+
+// Adds a line to the script, where it may stand there, and answers how far that brings it.
+fn add_line<E: Drop>(script: &mut Script<E>, part: Part, line: Line<E>) -> Result<Part, Wrong> {
+    match line {
+        Line::Blank => Ok(part),
+        Line::SetUp(command) => {
+            in_set_up(part)?;
+            script
+                .steps
+                .push(Step {
+                    command,
+                    answer: None,
+                })?;
+            Ok(part)
+        }
+        Line::Open => {
+            in_set_up(part)?;
+            Ok(Part::Opened)
+        }
+        Line::Asks(request, colon) => {
+            in_play(part)?;
+            script.requests.push(request)?;
+            script.colons.push(colon)?;
+            Ok(part)
+        }
+        Line::Reckon => {
+            in_play(part)?;
+            Ok(Part::Reckoned)
+        }
+    }
+}
+
 fn take_line<E: Element>(
     heap: Global,
     script: &mut Script<E>,
@@ -27,28 +73,8 @@ fn take_line<E: Element>(
     text: &str,
 ) -> Result<Part, Wrong> {
     let words = words(heap, text)?;
-    match (part, read_line(heap, words.as_slice())?) {
-        (part, Line::Blank) => Ok(part),
-        (Part::Reckoned, _) => Err(Wrong::AfterReckon),
-        (Part::SetUp, Line::SetUp(command)) => {
-            script
-                .steps
-                .push(Step {
-                    command,
-                    answer: None,
-                })?;
-            Ok(Part::SetUp)
-        }
-        (Part::SetUp, Line::Open) => Ok(Part::Opened),
-        (Part::SetUp, _) => Err(Wrong::BeforeOpen),
-        (Part::Opened, Line::Asks(request, colon)) => {
-            script.requests.push(request)?;
-            script.colons.push(colon)?;
-            Ok(Part::Opened)
-        }
-        (Part::Opened, Line::Reckon) => Ok(Part::Reckoned),
-        (Part::Opened, _) => Err(Wrong::AfterOpen),
-    }
+    let line = read_line(heap, words.as_slice())?;
+    add_line(script, part, line)
 }
 
 // The script after so many lines of header.

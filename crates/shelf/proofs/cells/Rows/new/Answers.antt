@@ -7,4 +7,4 @@ use Rattle.shelf.proofs.cells.Rows.new.Needs as need
 
 pub returns : need.returns
 returns g c =
-    let xs = c .args .cells .cells .now in ap (λ (ls : List ℕ). rows ls xs) (c .new .ensures) ∙ empty row xs
+    let xs = c .args .cells .cells .now in ap (λ (ls : List ℕ). rows ls xs) (c .new-lengths .ensures) ∙ empty row xs
