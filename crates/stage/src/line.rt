@@ -7,8 +7,8 @@ use crate::wrong::Wrong;
 use crate::wrong::WrongFromRefused;
 use model::kinds::Form;
 use model::kinds::Kall;
-use model::kinds::Request;
 use model::kinds::Owner;
+use model::kinds::Request;
 use std::alloc::Global;
 
 #[derive(Drop)]

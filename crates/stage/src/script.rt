@@ -1,8 +1,8 @@
 // What a scene script says, once it is read.
 use model::kinds::Form;
+use model::kinds::Owner;
 use model::kinds::Request;
 use model::signals::Fault;
-use model::kinds::Owner;
 
 #[derive(Clone, Copy)]
 pub(crate) enum RuleName {
