@@ -2,7 +2,7 @@
 ghost use mathlib.Core.Path.{_≡_};
 ghost use Rattle.model.specs.Signals.{number, layer, fault};
 
-// A signal by its name in the manual; its number and its layer are below.
+// A signal by its name; its number and its layer are below.
 #[derive(Clone, Copy)]
 pub enum Signal {
     Sproc,
