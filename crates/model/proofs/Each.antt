@@ -9,13 +9,16 @@ use Rattle.std.specs.declared.option.Option.{Option}
 use Rattle.std.specs.declared.result.Result.{Result}
 use Rattle.std.specs.declared.result.Result.the-variants.{Ok, Err}
 use Rattle.std.specs.Of.Vec.{vec-items}
+use Rattle.model.specs.declared.kinds.Slot.{Slot}
+use Rattle.model.specs.declared.kinds.Change.{Change}
+use Rattle.model.specs.declared.kinds.Change.the-variants.{Moved, Stored}
 use Rattle.model.specs.declared.kinds.Kall.{Kall}
 use Rattle.model.specs.declared.kinds.Kall.the-variants.{Lenth, Clenth, Dlenth, Getdata, Load, Pass, Take, Store, Append, Passappend, Delete, Interchange}
 use Rattle.model.specs.declared.signals.Fault.{Fault}
 use Rattle.model.specs.Model.{World}
 use Rattle.model.specs.Plan.{Plan, after}
 use Rattle.model.specs.Kalls.{
-  Plain,
+  Edit, changed, Plain,
   Outcome,
   plain,
   block,
@@ -30,13 +33,12 @@ use Rattle.model.specs.Kalls.{
   kall-pass,
   kall-take,
   kall-store,
-  kall-append,
-  kall-passappend,
+  appending,
   kall-delete,
   kall-interchange,
   plan,
 }
-use Rattle.model.proofs.Safe.{Setting, level, On, Sound, bind, pure, branch, weaken}
+use Rattle.model.proofs.Safe.{Setting, level, Fit, On, Sound, bind, pure, branch, weaken}
 use Rattle.model.proofs.Views.{
   here,
   kept-by,
@@ -140,23 +142,16 @@ module _ {E : Type 0} (S : Setting) (b : Bool) (p : ℕ) (c : S .cast p ≡ b) w
       bind (sound-vacant p c _ _ (k .place)) λ _ _.
       pure (Ok _) ((k .own tt tt, fit-stored S (level b true) mask s f), tt))
 
-  sound-append : (path : List ℕ) (cur : ℕ) (mask : Option ℕ) → Sound {E = E} S b (λ w. kall-append (S .rule) p path cur mask (w .frame)) Good-plain
-  sound-append path cur mask =
+  sound-appending : (ks : List ℕ) (ch : Change) (es : List (Edit E)) (path : List ℕ) (cur : ℕ) (mask : Option ℕ)
+      → ((s : Slot) → Fit S (level b true) s → Fit S (level b true) (changed (S .rule) ch s)) → Admits-all S b p es
+      → Sound {E = E} S b (λ w. appending (S .rule) p ks ch es path cur mask (w .frame)) Good-plain
+  sound-appending ks ch es path cur mask fit also =
       bind (sound-enter p c _ _) λ _ _.
       bind (sound-held p c _ _ _ here) λ s f.
       bind (sound-walk p c _ _ path) λ t k.
       bind (sound-object-at p c _ _ _ (k .place)) λ x h.
       bind (sound-next-slot (x .name) (kept-by b h)) λ i _.
-      pure (Ok _) ((owned-by k h tt tt tt, fit-stored S (level b true) mask s f), tt)
-
-  sound-passappend : (path : List ℕ) (cur : ℕ) (mask : Option ℕ) → Sound {E = E} S b (λ w. kall-passappend (S .rule) p path cur mask (w .frame)) Good-plain
-  sound-passappend path cur mask =
-      bind (sound-enter p c _ _) λ _ _.
-      bind (sound-held p c _ _ _ here) λ s f.
-      bind (sound-walk p c _ _ path) λ t k.
-      bind (sound-object-at p c _ _ _ (k .place)) λ x h.
-      bind (sound-next-slot (x .name) (kept-by b h)) λ i _.
-      pure (Ok _) ((owned-by k h tt tt tt, fit-moved S (level b true) mask s f), ((tt, tt), tt))
+      pure (Ok _) ((owned-by k h tt tt tt, fit s f), also)
 
   sound-delete : (path : List ℕ) → Sound {E = E} S b (λ w. kall-delete (S .rule) p path (w .frame)) Good-plain
   sound-delete path =
@@ -182,7 +177,7 @@ module _ {E : Type 0} (S : Setting) (b : Bool) (p : ℕ) (c : S .cast p ≡ b) w
   sound-plan (Pass path cur mask) xs = plainly (sound-pass (vec-items path) cur mask)
   sound-plan (Take new path) xs = plainly (sound-take new (vec-items path))
   sound-plan (Store path cur mask) xs = plainly (sound-store (vec-items path) cur mask)
-  sound-plan (Append path cur mask) xs = plainly (sound-append (vec-items path) cur mask)
-  sound-plan (Passappend path cur mask) xs = plainly (sound-passappend (vec-items path) cur mask)
+  sound-plan (Append path cur mask) xs = plainly (sound-appending _ (Stored mask) [] (vec-items path) cur mask (fit-stored S (level b true) mask) tt)
+  sound-plan (Passappend path cur mask) xs = plainly (sound-appending _ (Moved mask) _ (vec-items path) cur mask (fit-moved S (level b true) mask) ((tt, tt), tt))
   sound-plan (Delete path) xs = plainly (sound-delete (vec-items path))
   sound-plan (Interchange path cur mask) xs = plainly (sound-interchange (vec-items path) cur mask)

@@ -230,23 +230,21 @@ module _ {E : Type 0} (rule : Rule) (p : ℕ) where
     enter rule p mask (length path)
     λ f. cond (is-just cur path) (store-here cur mask f) (store-there path cur mask f)
 
-  abbrev pub kall-append : List ℕ → ℕ → Option ℕ → Plan Frame (Plain E)
-  kall-append path cur mask = do
+  -- a slot of the name space goes, changed, after the length of a list; `es` is what else is done
+  abbrev pub appending : List ℕ → Change → List (Edit E) → List ℕ → ℕ → Option ℕ → Plan Frame (Plain E)
+  appending ks ch es path cur mask = do
     enter rule p mask (length path)
-    s ← held rule (envrts ∷ []) p Mine cur 0
+    s ← held rule ks p Mine cur 0
     t ← walk rule writing writing p path
     c ← object-at rule (mdfyrts ∷ apprts ∷ []) p (t .holder) (t .index) (t .at)
     i ← next-slot (c .name)
-    done (pos 0) (put (Listed (c .name)) i (changed rule (Stored mask) s) ∷ [])
+    done (pos 0) (put (Listed (c .name)) i (changed rule ch s) ∷ es)
+
+  abbrev pub kall-append : List ℕ → ℕ → Option ℕ → Plan Frame (Plain E)
+  kall-append path cur mask = appending (envrts ∷ []) (Stored mask) [] path cur mask
 
   abbrev pub kall-passappend : List ℕ → ℕ → Option ℕ → Plan Frame (Plain E)
-  kall-passappend path cur mask = do
-    enter rule p mask (length path)
-    s ← held rule (envrts ∷ dltrts ∷ []) p Mine cur 0
-    t ← walk rule writing writing p path
-    c ← object-at rule (mdfyrts ∷ apprts ∷ []) p (t .holder) (t .index) (t .at)
-    i ← next-slot (c .name)
-    done (pos 0) (put (Listed (c .name)) i (changed rule (Moved mask) s) ∷ put Mine cur Empty ∷ [])
+  kall-passappend path cur mask = appending (envrts ∷ dltrts ∷ []) (Moved mask) (put Mine cur Empty ∷ []) path cur mask
 
   abbrev pub kall-delete : List ℕ → Plan Frame (Plain E)
   kall-delete path = do
