@@ -18,7 +18,9 @@ use Rattle.model.specs.declared.signals.Fault.{Fault}
 use Rattle.model.specs.Model.{World}
 use Rattle.model.specs.Plan.{Plan, after}
 use Rattle.model.specs.Kalls.{
-  Edit, changed, Plain,
+  Edit,
+  changed,
+  Plain,
   Outcome,
   plain,
   block,
