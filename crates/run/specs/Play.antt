@@ -1,4 +1,5 @@
 -- Requests as they are asked, and what their owners read of them after a run.
+use mathlib.Core.Path.{_≡_}
 use mathlib.Core.List.{List, [], _∷_, map}
 use Prim.Native.Nat.{ℕ}
 use lib.IntN.{ℤ}
@@ -7,10 +8,12 @@ use Rattle.std.specs.declared.option.Option.the-variants.{Some}
 use Rattle.std.specs.declared.result.Result.{Result}
 use Rattle.std.specs.Of.Vec.{vec-items}
 use Rattle.model.specs.declared.signals.Fault.{Fault}
+use Rattle.model.specs.declared.kinds.Name.{Name}
 use Rattle.model.specs.declared.kinds.Kall.{Kall}
 use Rattle.model.specs.declared.kinds.Request.{Request}
 use Rattle.model.specs.Model.{World, Rule}
 use Rattle.model.specs.Kalls.{Asked, Event, run}
+use Rattle.scene.specs.Abstract.{elements-at}
 
 abbrev pub ask : {E : Type 0} → Request E → Asked E
 ask q = record { caller = q .process; kall = q .kall; buffer = vec-items (q .buffer) }
@@ -38,3 +41,7 @@ played rule w qs = map told (run rule (map ask qs) w)
 
 abbrev pub afterwards : {E : Type 0} → Rule → World E → List (Request E) → World E
 afterwards rule w qs = ending w (run rule (map ask qs) w)
+
+-- a shelf that holds h has the elements of every name, wherever they lie
+abbrev pub Lies-on : {E : Type 0} → (ℕ → List E) → (Name → List E) → Type 0
+Lies-on h elements = (lie : Name → Option ℕ) × ((n : Name) → elements-at h (lie n) ≡ elements n)

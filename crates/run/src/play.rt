@@ -6,7 +6,7 @@ ghost use Rattle.model.specs.Kalls.{plan, replied, serve};
 ghost use Rattle.model.specs.SetUp.{reckoning};
 ghost use Rattle.model.specs.Isolation.{Isolates};
 ghost use Rattle.scene.specs.Abstract.{world};
-ghost use Rattle.run.specs.Play.{ask, view, told, played, afterwards};
+ghost use Rattle.run.specs.Play.{ask, view, told, played, afterwards, Lies-on};
 use model::kinds::Kall;
 use model::kinds::Request;
 use model::signals::Fault;
@@ -149,6 +149,7 @@ pub fn play<R: RightsRule + Drop, S: WritableShelf>(
 ) -> Reckoning
     ensures answers { λ _. ⌜ map view (now (requests .exit)) ≡ played (R·RightsRule .rule) (world («set_up» .tables) (S·ReadableShelf .holds (now (shelf .entry)))) (now (requests .entry)) ⌝ }
     ensures reckoned { λ r. ⌜ r .living ≡ reckoning (afterwards (R·RightsRule .rule) (world («set_up» .tables) (S·ReadableShelf .holds (now (shelf .entry)))) (now (requests .entry)) .frame) ⌝ }
+    ensures shelved { λ _. ⌜ Lies-on (S·ReadableShelf .holds (now (shelf .exit))) (afterwards (R·RightsRule .rule) (world («set_up» .tables) (S·ReadableShelf .holds (now (shelf .entry)))) (now (requests .entry)) .elements) ⌝ }
     ensures isolated { λ _. ⌜ Isolates (R·RightsRule .rule) (world («set_up» .tables) (S·ReadableShelf .holds (now (shelf .entry)))) (map ask (now (requests .entry))) ⌝ }
 {
     let (mut scene, slip) = open(set_up);
