@@ -14,9 +14,10 @@ returns g c =
     let up = c .args .set-up in
     let asked = c .args .requests .now in
     let after : world (c .serve-all .last .scene .tables) (g .S·ReadableShelf .holds (c .serve-all .last .shelf)) ≡ afterwards rule (world (up .tables) holds) asked =
-      c .serve-all .ensures .after ∙ ap (λ (t : Tables). afterwards rule (world t holds) asked) (c .open-scene .ensures) in
+    c .serve-all .ensures .after ∙ ap (λ (t : Tables). afterwards rule (world t holds) asked) (c .open-scene .ensures) in
     record {
       answers = c .serve-all .ensures .answers ∙ ap (λ (t : Tables). played rule (world t holds) asked) (c .open-scene .ensures);
       reckoned = c .reckon .ensures ∙ ap (λ (w : World (g .S·Element .Denot)). reckoning (w .frame)) after;
       shelved = (homes (c .serve-all .last .scene .tables), λ n. ap (λ (w : World (g .S·Element .Denot)). w .elements n) after);
-      isolated = isolates rule (g .R·RightsRule·met .lawful) (world (up .tables) holds) (record { objects = up .objects; held = up .held; listed = up .listed }) _ }
+      isolated = isolates rule (g .R·RightsRule·met .lawful) (world (up .tables) holds) (record { objects = up .objects; held = up .held; listed = up .listed }) _;
+    }
