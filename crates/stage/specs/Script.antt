@@ -15,9 +15,9 @@ use Rattle.std.specs.declared.result.Result.the-variants.{Ok, Err}
 use Rattle.stage.specs.declared.script.RuleName.{RuleName}
 use Rattle.stage.specs.declared.script.RuleName.the-variants.{Bits, Steps}
 use Rattle.stage.specs.declared.script.ShelfName.{ShelfName}
-use Rattle.stage.specs.declared.script.ShelfName.the-variants.{Rows}
+use Rattle.stage.specs.declared.script.ShelfName.the-variants.{Rows, Packed}
 use Rattle.stage.specs.declared.script.ElementName.{ElementName}
-use Rattle.stage.specs.declared.script.ElementName.the-variants.{Words}
+use Rattle.stage.specs.declared.script.ElementName.the-variants.{Words, Floats}
 use Rattle.stage.specs.declared.wrong.Wrong.{Wrong}
 use Rattle.stage.specs.declared.wrong.Wrong.the-variants.{Number}
 
@@ -34,8 +34,10 @@ Rule-named word None = (word ≡ codes "bits" → ⊥) × (word ≡ codes "steps
 
 abbrev pub Shelf-named : List ℕ → Option ShelfName → Type 0
 Shelf-named word (Some Rows) = word ≡ codes "rows"
-Shelf-named word None = word ≡ codes "rows" → ⊥
+Shelf-named word (Some Packed) = word ≡ codes "packed"
+Shelf-named word None = (word ≡ codes "rows" → ⊥) × (word ≡ codes "packed" → ⊥)
 
 abbrev pub Element-named : List ℕ → Option ElementName → Type 0
 Element-named word (Some Words) = word ≡ codes "words"
-Element-named word None = word ≡ codes "words" → ⊥
+Element-named word (Some Floats) = word ≡ codes "floats"
+Element-named word None = (word ≡ codes "words" → ⊥) × (word ≡ codes "floats" → ⊥)

@@ -25,6 +25,7 @@ fn shelf_named(word: &str) -> Option<ShelfName>
 {
     match word {
         "rows" => Some(ShelfName::Rows),
+        "packed" => Some(ShelfName::Packed),
         _ => None,
     }
 }
@@ -34,6 +35,7 @@ fn element_named(word: &str) -> Option<ElementName>
 {
     match word {
         "words" => Some(ElementName::Words),
+        "floats" => Some(ElementName::Floats),
         _ => None,
     }
 }

@@ -1,12 +1,12 @@
 // One line of a script, by its words.
 use crate::element::Element;
+use crate::kalls::read_kall;
 use crate::number::number;
 use crate::script::Buffer;
 use crate::script::Command;
 use crate::wrong::Wrong;
 use crate::wrong::WrongFromRefused;
 use model::kinds::Form;
-use model::kinds::Kall;
 use model::kinds::Owner;
 use model::kinds::Request;
 use std::alloc::Global;
@@ -73,13 +73,6 @@ fn form(code: &str, wanted: &str, check: &str, new: &str) -> Result<Form, Wrong>
     })
 }
 
-fn kall(name: &str, arguments: &[&str]) -> Result<Kall, Wrong> {
-    match (name, arguments) {
-        ("LENTH", []) => Ok(Kall::Lenth),
-        _ => Err(Wrong::Form),
-    }
-}
-
 fn make<E: Element>(
     heap: Global,
     kind: &str,
@@ -102,7 +95,7 @@ fn ask<E: Element>(
     let [process, name, ..] = words else {
         return Err(Wrong::Form);
     };
-    let kall = kall(name, &words[2..])?;
+    let kall = read_kall(heap, name, &words[2..])?;
     let process = number(process)?;
     let Buffer { elements, colon } = read_buffer(heap, buffer)?;
     let request = Request {

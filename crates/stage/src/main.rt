@@ -1,18 +1,18 @@
 // Plays a scene script from standard input, and prints what was done.
 mod element;
 mod header;
+mod kalls;
 mod line;
 mod number;
 mod parse;
 mod play;
 mod print;
 mod script;
-#[cfg(test)]
-mod tests;
 mod words;
 mod wrong;
 
 use crate::element::Element;
+use crate::element::FloatElement;
 use crate::element::WordElement;
 use crate::header::header;
 use crate::parse::parse;
@@ -29,6 +29,9 @@ use crate::wrong::StopFromBadLine;
 use crate::wrong::StopFromFault;
 use crate::wrong::StopFromIo;
 use shelf::cells::Cells;
+use shelf::packed::Packed;
+use shelf::packed::PackedRead;
+use shelf::packed::PackedWrite;
 use shelf::rows::Rows;
 use shelf::rows::RowsRead;
 use shelf::rows::RowsWrite;
@@ -49,11 +52,10 @@ fn play_over<E: Element>(
     let mut script = parse::<E>(heap, text, lines)?;
     let mut cells = vec![in heap; E::BLANK; CELLS]?;
     let rule = header.rule.unwrap_or(RuleName::Bits);
+    let cells = Cells::counted(cells.as_mut_slice())?;
     let reckoning = match header.shelf.unwrap_or(ShelfName::Rows) {
-        ShelfName::Rows => {
-            let mut rows = Rows::new(Cells::counted(cells.as_mut_slice())?);
-            play_script(rule, &mut rows, &mut script)
-        }
+        ShelfName::Rows => play_script(rule, &mut Rows::new(cells), &mut script),
+        ShelfName::Packed => play_script(rule, &mut Packed::new(cells), &mut script),
     };
     let mut out = BufWriter::new(rt.stdout());
     print_script(&mut out, &script, &reckoning)?;
@@ -72,6 +74,7 @@ fn play_input(rt: &LibcRuntime) -> Result<(), Stop> {
     let (header, lines) = header(heap, text)?;
     match header.element.unwrap_or(ElementName::Words) {
         ElementName::Words => play_over::<u16>(rt, header, text, lines),
+        ElementName::Floats => play_over::<f32>(rt, header, text, lines),
     }
 }
 

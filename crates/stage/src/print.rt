@@ -38,6 +38,17 @@ fn signal_name(signal: Signal) -> &'static str {
 fn kall_name(kall: &Kall) -> &'static str {
     match kall {
         Kall::Lenth => "LENTH",
+        Kall::Clenth { .. } => "CLENTH",
+        Kall::Dlenth { .. } => "DLENTH",
+        Kall::Getdata { .. } => "GETDATA",
+        Kall::Load { .. } => "LOAD",
+        Kall::Pass { .. } => "PASS",
+        Kall::Take { .. } => "TAKE",
+        Kall::Store { .. } => "STORE",
+        Kall::Append { .. } => "APPEND",
+        Kall::Passappend { .. } => "PASSAPPEND",
+        Kall::Delete { .. } => "DELETE",
+        Kall::Interchange { .. } => "INTERCHANGE",
     }
 }
 

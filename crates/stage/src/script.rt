@@ -13,11 +13,13 @@ pub(crate) enum RuleName {
 #[derive(Clone, Copy)]
 pub(crate) enum ShelfName {
     Rows,
+    Packed,
 }
 
 #[derive(Clone, Copy)]
 pub(crate) enum ElementName {
     Words,
+    Floats,
 }
 
 // What the header lines chose; a line that is absent chose nothing.

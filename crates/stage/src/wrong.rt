@@ -5,11 +5,12 @@ use std::alloc::Refused;
 use std::fmt;
 use std::io;
 
-#[derive(Clone, Copy, Debug, PartialEq)]
+#[derive(Clone, Copy)]
 pub(crate) enum Wrong {
     Form,
     Number,
     Word,
+    Float,
     HeaderValue,
     HeaderTwice,
     HeaderLate,
@@ -21,7 +22,7 @@ pub(crate) enum Wrong {
     Memory,
 }
 
-#[derive(Clone, Copy, Debug, PartialEq)]
+#[derive(Clone, Copy)]
 pub(crate) struct BadLine {
     pub(crate) line: usize,
     pub(crate) wrong: Wrong,
@@ -44,6 +45,7 @@ fn words(wrong: Wrong) -> &'static str {
         Wrong::Form => "no known form",
         Wrong::Number => "a number is decimal digits, below 4294967296",
         Wrong::Word => "a word is a number from 0 to 65535",
+        Wrong::Float => "a float is a decimal such as -1.5, and finite",
         Wrong::HeaderValue => "no such value of this header",
         Wrong::HeaderTwice => "this header stood before",
         Wrong::HeaderLate => "a header stands before all else",
