@@ -41,27 +41,29 @@ fn read_buffer<E: Element>(heap: Global, words: Option<&[&str]>) -> Result<Buffe
     })
 }
 
-fn owner(whose: &str, number: u32) -> Result<Owner, Wrong> {
+fn owner(whose: &str, n: &str) -> Result<Owner, Wrong> {
     match whose {
-        "process" => Ok(Owner::Process(number)),
-        "object" => Ok(Owner::Object(number)),
+        "process" => Ok(Owner::Process(number(n)?)),
+        "object" => Ok(Owner::Object(number(n)?)),
         _ => Err(Wrong::Form),
     }
 }
 
-fn plant<E>(
-    whose: &str,
-    n: &str,
-    slot: &str,
-    object: &str,
-    code: &str,
-) -> Result<Command<E>, Wrong> {
-    Ok(Command::Plant {
-        owner: owner(whose, number(n)?)?,
+fn plant<E>(owner: Owner, slot: &str, object: &str, code: &str) -> Result<Line<E>, Wrong> {
+    Ok(Line::SetUp(Command::Plant {
+        owner,
         slot: number(slot)?,
         object: number(object)?,
         code: number(code)?,
-    })
+    }))
+}
+
+fn template<E>(owner: Owner, slot: &str, form: Form) -> Result<Line<E>, Wrong> {
+    Ok(Line::SetUp(Command::Template {
+        owner,
+        slot: number(slot)?,
+        form,
+    }))
 }
 
 fn form(code: &str, wanted: &str, check: &str, new: &str) -> Result<Form, Wrong> {
@@ -71,6 +73,17 @@ fn form(code: &str, wanted: &str, check: &str, new: &str) -> Result<Form, Wrong>
         check: number(check)?,
         new: number(new)?,
     })
+}
+
+// A line that fills a slot.
+fn read_filling<E>(words: &[&str]) -> Result<Line<E>, Wrong> {
+    match words {
+        ["plant", whose, n, slot, object, code] => plant(owner(whose, n)?, slot, object, code),
+        ["template", whose, n, slot, code, wanted, check, new] => {
+            template(owner(whose, n)?, slot, form(code, wanted, check, new)?)
+        }
+        _ => Err(Wrong::Form),
+    }
 }
 
 fn make<E: Element>(
@@ -121,17 +134,9 @@ pub(crate) fn read_line<E: Element>(heap: Global, words: &[&str]) -> Result<Line
         [] => Ok(Line::Blank),
         ["rule" | "shelf" | "element", _] => Err(Wrong::HeaderLate),
         ["enrol"] => Ok(Line::SetUp(Command::Enrol)),
-        ["plant", whose, n, slot, object, code] => {
-            Ok(Line::SetUp(plant(whose, n, slot, object, code)?))
-        }
-        ["template", whose, n, slot, code, wanted, check, new] => {
-            let owner = owner(whose, number(n)?)?;
-            let slot = number(slot)?;
-            let form = form(code, wanted, check, new)?;
-            Ok(Line::SetUp(Command::Template { owner, slot, form }))
-        }
         ["open"] => Ok(Line::Open),
         ["reckon"] => Ok(Line::Reckon),
+        ["plant" | "template", ..] => read_filling(words),
         _ => read_with_buffer(heap, words),
     }
 }

@@ -21,6 +21,7 @@ use crate::print::print_script;
 use crate::script::ElementName;
 use crate::script::Header;
 use crate::script::RuleName;
+use crate::script::Script;
 use crate::script::ShelfName;
 use crate::wrong::Stop;
 use crate::wrong::StopDisplay;
@@ -28,6 +29,7 @@ use crate::wrong::StopFromAlloc;
 use crate::wrong::StopFromBadLine;
 use crate::wrong::StopFromFault;
 use crate::wrong::StopFromIo;
+use scene::opened::Reckoning;
 use shelf::cells::Cells;
 use shelf::packed::Packed;
 use shelf::packed::PackedRead;
@@ -35,11 +37,22 @@ use shelf::packed::PackedWrite;
 use shelf::rows::Rows;
 use shelf::rows::RowsRead;
 use shelf::rows::RowsWrite;
+use std::io;
 use std::io::BufWriter;
 use std::io::Read;
 use std::io::Write;
 
 const CELLS: usize = 10240;
+
+fn print_out<E: Element>(
+    rt: &LibcRuntime,
+    script: &Script<E>,
+    reckoning: &Reckoning,
+) -> io::Result<()> {
+    let mut out = BufWriter::new(rt.stdout());
+    print_script(&mut out, script, reckoning)?;
+    out.flush()
+}
 
 // Plays the lines after the header over elements of one type.
 fn play_over<E: Element>(
@@ -57,9 +70,7 @@ fn play_over<E: Element>(
         ShelfName::Rows => play_script(rule, &mut Rows::new(cells), &mut script),
         ShelfName::Packed => play_script(rule, &mut Packed::new(cells), &mut script),
     };
-    let mut out = BufWriter::new(rt.stdout());
-    print_script(&mut out, &script, &reckoning)?;
-    out.flush()?;
+    print_out(rt, &script, &reckoning)?;
     Ok(())
 }
 

@@ -2,6 +2,7 @@
 use crate::element::Element;
 use crate::line::Line;
 use crate::line::read_line;
+use crate::script::Command;
 use crate::script::Script;
 use crate::script::Step;
 use crate::words::words;
@@ -9,6 +10,7 @@ use crate::wrong::BadLine;
 use crate::wrong::Wrong;
 use crate::wrong::WrongFromAlloc;
 use crate::wrong::WrongFromRefused;
+use model::kinds::Request;
 use std::alloc::Global;
 
 // How far the script has come.
@@ -35,30 +37,43 @@ fn in_play(part: Part) -> Result<(), Wrong> {
     }
 }
 
+fn add_command<E: Drop>(
+    script: &mut Script<E>,
+    part: Part,
+    command: Command<E>,
+) -> Result<Part, Wrong> {
+    in_set_up(part)?;
+    script
+        .steps
+        .push(Step {
+            command,
+            answer: None,
+        })?;
+    Ok(part)
+}
+
+fn add_request<E: Drop>(
+    script: &mut Script<E>,
+    part: Part,
+    request: Request<E>,
+    colon: bool,
+) -> Result<Part, Wrong> {
+    in_play(part)?;
+    script.requests.push(request)?;
+    script.colons.push(colon)?;
+    Ok(part)
+}
+
 // Adds a line to the script, where it may stand there, and answers how far that brings it.
 fn add_line<E: Drop>(script: &mut Script<E>, part: Part, line: Line<E>) -> Result<Part, Wrong> {
     match line {
         Line::Blank => Ok(part),
-        Line::SetUp(command) => {
-            in_set_up(part)?;
-            script
-                .steps
-                .push(Step {
-                    command,
-                    answer: None,
-                })?;
-            Ok(part)
-        }
+        Line::SetUp(command) => add_command(script, part, command),
         Line::Open => {
             in_set_up(part)?;
             Ok(Part::Opened)
         }
-        Line::Asks(request, colon) => {
-            in_play(part)?;
-            script.requests.push(request)?;
-            script.colons.push(colon)?;
-            Ok(part)
-        }
+        Line::Asks(request, colon) => add_request(script, part, request, colon),
         Line::Reckon => {
             in_play(part)?;
             Ok(Part::Reckoned)

@@ -124,17 +124,26 @@ fn print_reckoning<W: Write>(out: &mut W, reckoning: &Reckoning) -> io::Result<(
     writeln!(out)
 }
 
+fn print_steps<E: Display, W: Write>(out: &mut W, steps: &[Step<E>]) -> io::Result<()> {
+    for step in steps {
+        print_step(out, step)?;
+    }
+    writeln!(out, "open: 0")
+}
+
+fn print_requests<E: Display, W: Write>(out: &mut W, script: &Script<E>) -> io::Result<()> {
+    for (request, colon) in script.requests.iter().zip(script.colons.iter()) {
+        print_request(out, *colon, request)?;
+    }
+    Ok(())
+}
+
 pub(crate) fn print_script<E: Display, W: Write>(
     out: &mut W,
     script: &Script<E>,
     reckoning: &Reckoning,
 ) -> io::Result<()> {
-    for step in script.steps.iter() {
-        print_step(out, step)?;
-    }
-    writeln!(out, "open: 0")?;
-    for (request, colon) in script.requests.iter().zip(script.colons.iter()) {
-        print_request(out, *colon, request)?;
-    }
+    print_steps(out, script.steps.as_slice())?;
+    print_requests(out, script)?;
     print_reckoning(out, reckoning)
 }
