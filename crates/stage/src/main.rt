@@ -1,4 +1,5 @@
 // Plays a scene script from standard input, and prints what was done.
+#![tactic(auto)]
 mod element;
 mod header;
 mod kalls;
