@@ -12,7 +12,7 @@ import subprocess
 import sys
 import tempfile
 
-TOKEN = re.compile(r"[^\W\d][\w']*(?:-[\w']+)*")
+TOKEN = re.compile(r"[^\W\d][\w']*(?:[-·][\w']+)*")
 
 
 def strings(value):
@@ -40,7 +40,7 @@ def labels(function):
 
 
 def folded(name):
-    return name.replace("_", "-").lower()
+    return name.replace("_", "-").replace("·", "-").lower()
 
 
 def turn(path, today):

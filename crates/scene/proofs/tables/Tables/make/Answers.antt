@@ -9,11 +9,11 @@ use Rattle.scene.proofs.Bodies.{seek_found}
 use Rattle.scene.proofs.Making.{full, some_left, small_share, new_frame, new_homes, unused, new_bounded, new_distinct}
 use Rattle.scene.proofs.tables.Tables.make.Goals as goal
 
-pub returns-in-default : goal.returns-in-default
+pub returns-in_default : goal.returns-in_default
 unfolding living_of new_number
-returns-in-default c = (rw (le-leb _ _ (full _ _ _ c.in-default.ensures.value)) (ap Err c.new.ensures), refl, refl)
+returns-in_default c = (rw (le-leb _ _ (full _ _ _ c.in_default.ensures.value)) (ap Err c.new.ensures), refl, refl)
 
-small : (c : goal.After-way-told·1) → c.args.share < 9
+small : (c : goal.After-way_told-1) → c.args.share < 9
 small c = let f = seek_found _ _ _ _ _ (sym c.in-Some.ensures.value) in (small_share c.args.share c.in-Some.place f.low f.high).0
 
 pub bounds-self-share : goal.bounds-self-share
@@ -26,8 +26,8 @@ returns-then-number-ge60000 c = (rw (lt-leb _ _ (some_left _ _ _ _ c.in-Some.ens
 pub bounds-self-share-2 : goal.bounds-self-share-2
 bounds-self-share-2 c = let f = seek_found _ _ _ _ _ (sym c.in-Some.ensures.value) in (small_share c.args.share c.in-Some.place f.low f.high).0
 
-pub invariant-of-self : goal.invariant-of-self
-invariant-of-self c =
+pub invariant_of-self : goal.invariant_of-self
+invariant_of-self c =
     let long : length c.args.self.now.objects ≡ 160 = search rules in
     let wide : length c.args.self.now.given ≡ 9 = search rules in
     let big : length c.args.self.now.slots ≡ 1280 = search rules in

@@ -3,4 +3,4 @@ use Rattle.shelf.proofs.Shortness.{short_new}
 use Rattle.shelf.proofs.lengths.Lengths.new.Goals as goal
 
 pub invariant_of-result : goal.invariant_of-result
-invariant_of-result c = (short_new 160, (lit≤ tt, tt))
+invariant_of-result c = record { short = short_new 160; whole = lit≤ tt }
