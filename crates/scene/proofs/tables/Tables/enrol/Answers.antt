@@ -13,19 +13,13 @@ pub invariant_of-self : goal.invariant_of-self
 invariant_of-self c =
     let t = c.args.self.now in
     let long : length c.args.self.now.processes ≡ 8 = search rules in
-    let in_range = c.in_ok-process.ensures.within in (
-      t.bounded,
-      (
-        t.distinct,
-        (
-          each_row t.processes c.in_ok-process.process _ in_range.0 in_range.1 long refl (λ (q : Process). q.depth ≤ 6) (omega arith) t.deep,
-          (
-            each_row t.processes c.in_ok-process.process _ in_range.0 in_range.1 long refl (λ (q : Process). q.depth ≤ length q.spaces) (omega arith) t.shelved,
-            tt,
-          ),
-        ),
-      ),
-    )
+    let in_range = c.in_ok-process.ensures.within in
+    record {
+      bounded = t.bounded;
+      distinct = t.distinct;
+      deep = each_row t.processes c.in_ok-process.process _ in_range.0 in_range.1 long refl (λ (q : Process). q.depth ≤ 6) (omega arith) t.deep;
+      shelved = each_row t.processes c.in_ok-process.process _ in_range.0 in_range.1 long refl (λ (q : Process). q.depth ≤ length q.spaces) (omega arith) t.shelved;
+    }
 
 pub returns : goal.returns
 returns c =

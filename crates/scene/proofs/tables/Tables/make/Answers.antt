@@ -32,13 +32,13 @@ invariant_of-self c =
     let wide : length c.args.self.now.given ≡ 9 = search rules in
     let big : length c.args.self.now.slots ≡ 1280 = search rules in
     let t = c.args.self.now in
-    let free = c.in-Some.ensures.value in (
-      new_bounded t.objects t.slots t.given c.args.share c.in-Some.place c.args.kind _ refl free t.bounded long wide big,
-      (
-        new_distinct t.objects t.slots t.given c.args.share c.in-Some.place c.args.kind _ refl free t.bounded long wide big t.distinct,
-        (t.deep, (t.shelved, tt)),
-      ),
-    )
+    let free = c.in-Some.ensures.value in
+    record {
+      bounded = new_bounded t.objects t.slots t.given c.args.share c.in-Some.place c.args.kind _ refl free t.bounded long wide big;
+      distinct = new_distinct t.objects t.slots t.given c.args.share c.in-Some.place c.args.kind _ refl free t.bounded long wide big t.distinct;
+      deep = t.deep;
+      shelved = t.shelved;
+    }
 
 pub returns : goal.returns
 unfolding living_of new_number
