@@ -1,5 +1,6 @@
 // Plays a scene script from standard input, and prints what was done.
 #![tactic(auto)]
+
 mod element;
 mod header;
 mod kalls;

@@ -1,4 +1,4 @@
-use Rattle.std.proofs.Common.{◌≡◌, ℕ, ◌+◌, ◌-◌, ◌<◌, ◌≤◌, Bool, ◌&&◌, List, length, drop, sym, refl, ap, ◌∙◌, arith, Bor, rules}
+use Rattle.std.proofs.Common.{◌≡◌, ℕ, ◌+◌, ◌-◌, ◌<◌, ◌&&◌, List, length, drop, sym, refl, ap, ◌∙◌, arith, Bor, rules}
 use Rattle.model.specs.Model.{ucnfrts}
 use Rattle.model.specs.Plan.{walk, asked_of}
 use Rattle.scene.specs.Abstract.{frame}

@@ -1,7 +1,7 @@
 use Rattle.std.proofs.Common.{◌≡◌, ℕ, List, ◌++◌, length, take, drop, vec_items, sym, ap, ◌∙◌, ap₂, rules}
 use lib.Seq.{take-append_seam}
 use Rattle.model.specs.declared.kinds.Kall.{Kall}
-use Rattle.model.specs.Kalls.{Reply, replied, plan, kall_getdata}
+use Rattle.model.specs.Kalls.{replied, plan, kall_getdata}
 use Rattle.scene.specs.Abstract.{world}
 use Rattle.run.proofs.play.perform.Goals as goal
 

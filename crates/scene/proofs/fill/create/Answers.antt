@@ -1,4 +1,4 @@
-use Rattle.std.proofs.Common.{◌≡◌, Err, refl, ap, ◌∙◌}
+use Rattle.std.proofs.Common.{Err, refl, ap, ◌∙◌}
 use Rattle.scene.specs.Abstract.{world}
 use Rattle.scene.proofs.Creating.{created, not_filled, not_made, over_long}
 use Rattle.scene.proofs.fill.create.Goals as goal

@@ -1,4 +1,4 @@
-use Rattle.std.proofs.Common.{◌≡◌, ◌≤◌, Ok, Err, sym, refl, ap, ◌∙◌, arith}
+use Rattle.std.proofs.Common.{Err, sym, refl, ap, ◌∙◌, arith}
 use Rattle.scene.proofs.Filling.{too_long, no_place, emptied, one_more, no_refusal, all_there, refused}
 use Rattle.scene.proofs.fill.fill.Goals as goal
 

@@ -1,5 +1,4 @@
-use Rattle.std.proofs.Common.{◌≡◌, ℕ, ◌+◌, ◌-◌, ◌*◌, sym, refl, ap, ◌∙◌, arith, rules}
-use Rattle.scene.specs.Abstract.{wiped}
+use Rattle.std.proofs.Common.{◌≡◌, ◌+◌, ◌*◌, sym, ◌∙◌, arith}
 use Rattle.scene.proofs.Making.{wiped_step, wiped_end}
 use Rattle.scene.proofs.objects.wipe.Goals as goal
 

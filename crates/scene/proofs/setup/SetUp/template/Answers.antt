@@ -6,6 +6,6 @@ pub invariant_of-self : goal.invariant_of-self
 invariant_of-self g c =
     let up = c.args.self.now in
     let house =
-        housed _ _ c.put_in.ensures.after
-        (opened_put (record { objects = up.objects; held = up.held; listed = up.listed }) _ (template_slot _) _ _ _) in
+    housed _ _ c.put_in.ensures.after
+    (opened_put (record { objects = up.objects; held = up.held; listed = up.listed }) _ (template_slot _) _ _ _) in
     record { objects = house.objects; held = house.held; listed = house.listed }

@@ -1,9 +1,9 @@
-use Rattle.std.proofs.Common.{◌≡◌, ℕ, ◌≤◌, length, Ok, Result, sym, refl, ap, ◌∙◌, subst, ap₂, arith, rules}
+use Rattle.std.proofs.Common.{◌≡◌, ℕ, ◌≤◌, length, Ok, Result, refl, ap, ◌∙◌, arith, rules}
 use Rattle.model.specs.declared.signals.Fault.{Fault}
 use Rattle.model.specs.Model.{Frame}
 use Rattle.model.specs.Plan.{after}
 use Rattle.model.specs.Kalls.{on_process}
-use Rattle.model.specs.SetUp.{Change, newcomer}
+use Rattle.model.specs.SetUp.{newcomer}
 use Rattle.scene.specs.declared.kinds.Process.{Process}
 use Rattle.scene.specs.Abstract.{frame}
 use Rattle.scene.proofs.Enrolling.{enrolled_frame, each_row}

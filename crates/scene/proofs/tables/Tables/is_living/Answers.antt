@@ -1,4 +1,3 @@
-use Rattle.std.proofs.Common.{◌≡◌, sym, refl, ap}
 use Rattle.scene.proofs.Bodies.{object_none, object_some}
 use Rattle.scene.proofs.tables.Tables.is_living.Goals as goal
 

@@ -1,4 +1,4 @@
-use Rattle.std.proofs.Common.{◌≡◌, Ok, ap, ◌∙◌, arith, rules}
+use Rattle.std.proofs.Common.{Ok, ap, ◌∙◌, arith}
 use Rattle.model.specs.Plan.{length_of, last_filled}
 use Rattle.scene.proofs.Spaces.{top_none, top_some}
 use Rattle.scene.proofs.tables.Tables.length.Goals as goal

@@ -1,10 +1,8 @@
-use Rattle.std.proofs.Common.{◌≡◌, ℕ, ◌+◌, ◌-◌, ◌<◌, ◌≤◌, Bool, true, false, cond, ◌&&◌, eqb, ltb, leb, List, [], ◌∷◌, length, get_or, set, Ok, Err, sym, refl, ap, ◌∙◌, subst, arith, rules}
+use Rattle.std.proofs.Common.{◌≡◌, ◌+◌, ◌<◌, List, length, get_or, set, Err, sym, refl, ap, ◌∙◌, arith, rules}
 use Rattle.std.proofs.lemmas.Bool.{le-leb, lt-leb}
 use Rattle.model.specs.Plan.{new_number}
-use Rattle.model.specs.Plan.{places}
-use Rattle.scene.specs.Places.{base_of}
 use Rattle.model.specs.declared.kinds.Slot.{Slot}
-use Rattle.scene.specs.Abstract.{living_of, frame, frame_of}
+use Rattle.scene.specs.Abstract.{living_of, frame_of}
 use Rattle.scene.proofs.Bodies.{seek_found}
 use Rattle.scene.proofs.Making.{full, some_left, small_share, new_frame, new_homes, unused, new_bounded, new_distinct}
 use Rattle.scene.proofs.tables.Tables.make.Goals as goal

@@ -1,9 +1,9 @@
-use Rattle.std.proofs.Common.{◌≡◌, ℕ, ◌≤◌, refl, zero-le, le_trans, arith, rules}
+use Rattle.std.proofs.Common.{refl, zero-le, le_trans}
 use Rattle.scene.proofs.Fresh.{fresh, shallow, shelved, bare_frame}
 use Rattle.scene.proofs.tables.Tables.new.Goals as goal
 
 pub invariant_of-result : goal.invariant_of-result
-invariant_of-result c = 
+invariant_of-result c =
     record {
       bounded = λ s i h k. le_trans (fresh 160 _ refl i) (zero-le {n = _});
       distinct = λ s i j h. fresh 160 _ refl i;

@@ -1,4 +1,4 @@
-use Rattle.std.proofs.Common.{◌≡◌, ℕ, ◌+◌, ◌*◌, ◌<◌, ◌≤◌, length, set, refl, arith, rules}
+use Rattle.std.proofs.Common.{◌≡◌, ◌<◌, length, refl, arith, rules}
 use Rattle.scene.proofs.Bodies.{put_frame, put_none, put_past}
 use Rattle.scene.proofs.tables.Tables.put.Goals as goal
 

@@ -1,4 +1,4 @@
-use Rattle.std.proofs.Common.{◌≡◌, ◌*◌, Err, sym, refl, ap, arith}
+use Rattle.std.proofs.Common.{◌*◌, Err, ap, arith}
 use Rattle.std.proofs.lemmas.Bool.{lt-ltb, le-ltb}
 use Rattle.scene.proofs.Bodies.{object_none, object_some, lot_at}
 use Rattle.scene.proofs.tables.Tables.slot.Goals as goal

@@ -1,4 +1,4 @@
-use Rattle.std.proofs.Common.{◌≡◌, ◌-◌, ◌≤◌}
+use Rattle.std.proofs.Common.{◌≡◌, ◌-◌}
 use Rattle.model.specs.SetUp.{unenrolled}
 use Rattle.scene.specs.Abstract.{process_of}
 use Rattle.scene.proofs.tables.Tables.unenrolled.Given as goal

@@ -1,5 +1,4 @@
-use Rattle.std.proofs.Common.{arith, rules}
-use Rattle.std.proofs.lemmas.Bool.Decides.{nat_tests}
+use Rattle.std.proofs.Common.{rules}
 use Rattle.model.specs.Plan.{vacant}
 use Rattle.scene.proofs.tables.Tables.vacant.Goals as goal
 
