@@ -1,27 +1,15 @@
 -- Each kall is sound.
-use mathlib.Core.Path.{_≡_, ap}
-use mathlib.Core.List.{List, [], _∷_}
-use mathlib.Core.Bool.{Bool, true, false, cond}
-use Prim.Native.Nat.{ℕ, _≤_}
-use mathlib.Core.Logic.{inl}
-use lib.Dec.{T, eqb}
-use lib.IntN.{pos}
-use lib.ListN.{length}
-use Rattle·std.specs.declared.option.Option.{Option}
-use Rattle·std.specs.declared.option.Option.the-variants.{None}
-use Rattle·std.specs.declared.result.Result.{Result}
-use Rattle·std.specs.declared.result.Result.the-variants.{Ok, Err}
-use Rattle·std.specs.Of.Vec.{vec-items}
-use Rattle·model·specs.declared.kinds.Name.{Name}
-use Rattle·model·specs.declared.kinds.Slot.{Slot}
-use Rattle·model·specs.declared.kinds.Change.{Change}
-use Rattle·model·specs.declared.kinds.Change.the-variants.{Moved, Stored}
-use Rattle·model·specs.declared.kinds.Kall.{Kall}
-use Rattle·model·specs.declared.kinds.Kall.the-variants.{Lenth, Clenth, Dlenth, Getdata, Load, Pass, Take, Store, Append, Passappend, Delete, Interchange, Data, Univ, Putdata, Addata, Erase}
-use Rattle·model·specs.declared.signals.Fault.{Fault}
-use Rattle·model·specs.Model.{World, mdfyrts}
-use Rattle·model·specs.Plan.{Plan, after}
-use Rattle·model·specs.Kalls.{
+use Rattle.std.proofs.Common.{◌≡◌, ℕ, ◌≤◌, Bool, true, false, cond, T, eqb, List, [], ◌∷◌, length, pos, None, Ok, Err, vec_items, Option, Result, ap, inl}
+use Rattle.model.specs.declared.kinds.Name.{Name}
+use Rattle.model.specs.declared.kinds.Slot.{Slot}
+use Rattle.model.specs.declared.kinds.Change.{Change}
+use Rattle.model.specs.declared.kinds.Change.TheVariants.{Moved, Stored}
+use Rattle.model.specs.declared.kinds.Kall.{Kall}
+use Rattle.model.specs.declared.kinds.Kall.TheVariants.{Lenth, Clenth, Dlenth, Getdata, Load, Pass, Take, Store, Append, Passappend, Delete, Interchange, Data, Univ, Putdata, Addata, Erase}
+use Rattle.model.specs.declared.signals.Fault.{Fault}
+use Rattle.model.specs.Model.{World, mdfyrts}
+use Rattle.model.specs.Plan.{Plan, after}
+use Rattle.model.specs.Kalls.{
   Edit,
   changed,
   Plain,
@@ -29,183 +17,183 @@ use Rattle·model·specs.Kalls.{
   plain,
   block,
   copied,
-  read-at,
-  kall-lenth,
-  kall-clenth,
-  kall-dlenth,
-  kall-getdata,
-  kall-load,
-  is-just,
-  kall-pass,
-  kall-take,
-  kall-store,
+  read_at,
+  kall_lenth,
+  kall_clenth,
+  kall_dlenth,
+  kall_getdata,
+  kall_load,
+  is_just,
+  kall_pass,
+  kall_take,
+  kall_store,
   appending,
-  kall-delete,
-  kall-interchange,
+  kall_delete,
+  kall_interchange,
   plan,
   fill,
   making,
-  write-at,
+  write_at,
   overwritten,
   lengthened,
-  kall-putdata,
-  kall-addata,
-  kall-erase,
+  kall_putdata,
+  kall_addata,
+  kall_erase,
 }
-use Rattle·model·proofs.Safe.{Setting, level, Fit, On, Sound, bind, pure, branch, weaken, Side, Own}
-use Rattle·model·proofs.Views.{
+use Rattle.model.proofs.Safe.{Setting, level, Fit, On, Sound, bind, pure, branch, weaken, Side, Own}
+use Rattle.model.proofs.Views.{
   here,
-  kept-by,
-  owned-by,
-  fit-loaded,
-  fit-taken,
-  fit-moved,
-  fit-stored,
-  sound-next-slot,
-  sound-runs,
-  sound-enter,
-  sound-length,
-  sound-list-length,
-  sound-elements,
-  sound-object-at,
-  sound-held,
-  sound-vacant,
-  sound-walk,
+  kept_by,
+  owned_by,
+  fit_loaded,
+  fit_taken,
+  fit_moved,
+  fit_stored,
+  sound_next_slot,
+  sound_runs,
+  sound_enter,
+  sound_length,
+  sound_list_length,
+  sound_elements,
+  sound_object_at,
+  sound_held,
+  sound_vacant,
+  sound_walk,
   asks,
-  on-any,
-  sound-new-object,
-  sound-part-limit,
+  on_any,
+  sound_new_object,
+  sound_part_limit,
 }
-use Rattle·model·proofs.Edits.{Admits-all, own-new}
+use Rattle.model.proofs.Edits.{AdmitsAll, own_new}
 
 -- a capability for what the caller makes
-new-side : (S : Setting) (b : Bool) (p k r : ℕ) → S .cast p ≡ b → 1 ≤ p
+new_side : (S : Setting) (b : Bool) (p k r : ℕ) → S.cast p ≡ b → 1 ≤ p
     → Side S (level b true) (record { name = record { share = p; number = k }; rights = r })
-new-side S true p k r c h = inl (own-new S true p k c h)
-new-side S false p k r c h = λ q. absurd (own-new S false p k c h q)
+new_side S true p k r c h = inl (own_new S true p k c h)
+new_side S false p k r c h = λ q. absurd (own_new S false p k c h q)
 
-module _ {E : Type 0} (S : Setting) (b : Bool) (p : ℕ) (c : S .cast p ≡ b) where
+module _ {E : Type 0} (S : Setting) (b : Bool) (p : ℕ) (c : S.cast p ≡ b) where
   -- what each kall comes to: its edits are the caller's to make
-  abbrev Good-plain : Plain E → Type 0
-  Good-plain o = Admits-all S b p (o .edits)
+  abbrev GoodPlain : Plain E → Type 0
+  GoodPlain o = AdmitsAll S b p o.edits
 
   abbrev pub Good : Outcome E → Type 0
-  Good o = Admits-all S b p (o .edits)
+  Good o = AdmitsAll S b p o.edits
 
-  plainly : {m : Plan (World E) (Plain E)} → Sound S b m Good-plain → Sound S b (λ w. plain (m w)) Good
-  plainly {m} h = record { good = λ w i. go (m w) (h .good w i); same = λ t v w i j a. ap plain (h .same t v w i j a) }
+  plainly : {m : Plan (World E) (Plain E)} → Sound S b m GoodPlain → Sound S b (λ w. plain (m w)) Good
+  plainly {m} h = record { good = λ w i. go (m w) (h.good w i); same = λ t v w i j a. ap plain (h.same t v w i j a) }
     where
-      go : (x : Result (Plain E) Fault) → On Good-plain x → On Good (plain x)
+      go : (x : Result (Plain E) Fault) → On GoodPlain x → On Good (plain x)
       go (Ok o) q = q
       go (Err e) q = tt
 
-  sound-read-at : (k : ℕ) (path : List ℕ) → Sound {E = E} S b (λ w. read-at (S .rule) p k path (w .frame)) (λ x. b ≡ true → S .Kept (x .name))
-  sound-read-at k path =
-      bind (sound-enter p c _ _) λ _ _.
-      bind (sound-walk p c _ _ path) λ t st.
-      weaken (sound-object-at p c _ _ _ (st .place)) λ x h. kept-by b h
+  sound_read_at : (k : ℕ) (path : List ℕ) → Sound {E = E} S b (λ w. read_at S.rule p k path w.frame) (λ x. b ≡ true → S.Kept x.name)
+  sound_read_at k path =
+      bind (sound_enter p c _ _) λ _ _.
+      bind (sound_walk p c _ _ path) λ t st.
+      weaken (sound_object_at p c _ _ _ st.place) λ x h. kept_by b h
 
-  sound-lenth : Sound {E = E} S b (λ w. kall-lenth (S .rule) p (w .frame)) Good-plain
-  sound-lenth =
-      bind (sound-runs p c) λ _ _.
-      bind (sound-length p c) λ n _.
+  sound_lenth : Sound {E = E} S b (λ w. kall_lenth S.rule p w.frame) GoodPlain
+  sound_lenth =
+      bind (sound_runs p c) λ _ _.
+      bind (sound_length p c) λ n _.
       pure (Ok _) tt
 
-  sound-clenth : (path : List ℕ) → Sound {E = E} S b (λ w. kall-clenth (S .rule) p path (w .frame)) Good-plain
-  sound-clenth path =
-      bind (sound-read-at _ path) λ x k.
-      bind (sound-list-length (x .name) k) λ n _.
+  sound_clenth : (path : List ℕ) → Sound {E = E} S b (λ w. kall_clenth S.rule p path w.frame) GoodPlain
+  sound_clenth path =
+      bind (sound_read_at _ path) λ x k.
+      bind (sound_list_length x.name k) λ n _.
       pure (Ok _) tt
 
-  sound-dlenth : (path : List ℕ) → Sound {E = E} S b (kall-dlenth (S .rule) p path) Good-plain
-  sound-dlenth path =
-      bind (sound-read-at _ path) λ x k.
-      sound-elements (x .name) k (λ xs. Ok (record { value = pos (length xs); edits = [] })) (λ xs. tt)
+  sound_dlenth : (path : List ℕ) → Sound {E = E} S b (kall_dlenth S.rule p path) GoodPlain
+  sound_dlenth path =
+      bind (sound_read_at _ path) λ x k.
+      sound_elements x.name k (λ xs. Ok (record { value = pos (length xs); edits = [] })) (λ xs. tt)
 
-  sound-getdata : (path : List ℕ) (disp knt : ℕ) (xs : List E) → Sound {E = E} S b (kall-getdata (S .rule) p path disp knt xs) Good
-  sound-getdata path disp knt xs =
-      bind (sound-read-at _ path) λ x k.
-      sound-elements (x .name) k (λ part. after (block disp knt (length xs) part) (λ ys. Ok (copied xs ys))) (λ part. harmless (block disp knt (length xs) part))
+  sound_getdata : (path : List ℕ) (disp knt : ℕ) (xs : List E) → Sound {E = E} S b (kall_getdata S.rule p path disp knt xs) Good
+  sound_getdata path disp knt xs =
+      bind (sound_read_at _ path) λ x k.
+      sound_elements x.name k (λ part. after (block disp knt (length xs) part) (λ ys. Ok (copied xs ys))) (λ part. harmless (block disp knt (length xs) part))
     where
       harmless : (r : Result (List E) Fault) → On Good (after r (λ ys. Ok (copied xs ys)))
       harmless (Ok ys) = tt
       harmless (Err e) = tt
 
-  sound-load : (new : ℕ) (path : List ℕ) → Sound {E = E} S b (λ w. kall-load (S .rule) p new path (w .frame)) Good-plain
-  sound-load new path =
-      bind (sound-enter p c _ _) λ _ _.
-      bind (sound-vacant p c _ _ here) λ _ _.
-      bind (sound-walk p c _ _ path) λ t k.
-      bind (sound-held p c _ _ _ (k .place)) λ s f.
-      pure (Ok _) ((tt, fit-loaded S b (t .clear) s f), tt)
+  sound_load : (new : ℕ) (path : List ℕ) → Sound {E = E} S b (λ w. kall_load S.rule p new path w.frame) GoodPlain
+  sound_load new path =
+      bind (sound_enter p c _ _) λ _ _.
+      bind (sound_vacant p c _ _ here) λ _ _.
+      bind (sound_walk p c _ _ path) λ t k.
+      bind (sound_held p c _ _ _ k.place) λ s f.
+      pure (Ok _) ((tt, fit_loaded S b t.clear s f), tt)
 
-  sound-pass : (path : List ℕ) (cur : ℕ) (mask : Option ℕ) → Sound {E = E} S b (λ w. kall-pass (S .rule) p path cur mask (w .frame)) Good-plain
-  sound-pass path cur mask =
-      bind (sound-enter p c _ _) λ _ _.
-      bind (sound-held p c _ _ _ here) λ s f.
-      bind (sound-walk p c _ _ path) λ t k.
-      bind (sound-vacant p c _ _ (k .place)) λ _ _.
-      pure (Ok _) ((k .own tt tt, fit-moved S (level b true) mask s f), ((tt, tt), tt))
+  sound_pass : (path : List ℕ) (cur : ℕ) (mask : Option ℕ) → Sound {E = E} S b (λ w. kall_pass S.rule p path cur mask w.frame) GoodPlain
+  sound_pass path cur mask =
+      bind (sound_enter p c _ _) λ _ _.
+      bind (sound_held p c _ _ _ here) λ s f.
+      bind (sound_walk p c _ _ path) λ t k.
+      bind (sound_vacant p c _ _ k.place) λ _ _.
+      pure (Ok _) ((k.own tt tt, fit_moved S (level b true) mask s f), ((tt, tt), tt))
 
-  sound-take : (new : ℕ) (path : List ℕ) → Sound {E = E} S b (λ w. kall-take (S .rule) p new path (w .frame)) Good-plain
-  sound-take new path =
-      bind (sound-enter p c _ _) λ _ _.
-      bind (sound-vacant p c _ _ here) λ _ _.
-      bind (sound-walk p c _ _ path) λ t k.
-      bind (sound-held p c _ _ _ (k .place)) λ s f.
-      pure (Ok _) ((tt, fit-taken S b (t .clear) s f), ((k .own tt tt, tt), tt))
+  sound_take : (new : ℕ) (path : List ℕ) → Sound {E = E} S b (λ w. kall_take S.rule p new path w.frame) GoodPlain
+  sound_take new path =
+      bind (sound_enter p c _ _) λ _ _.
+      bind (sound_vacant p c _ _ here) λ _ _.
+      bind (sound_walk p c _ _ path) λ t k.
+      bind (sound_held p c _ _ _ k.place) λ s f.
+      pure (Ok _) ((tt, fit_taken S b t.clear s f), ((k.own tt tt, tt), tt))
 
-  sound-store : (path : List ℕ) (cur : ℕ) (mask : Option ℕ) → Sound {E = E} S b (λ w. kall-store (S .rule) p path cur mask (w .frame)) Good-plain
-  sound-store path cur mask =
-      bind (sound-enter p c _ _) λ _ _.
-      branch (is-just cur path)
-      (bind (sound-held p c _ _ _ here) λ s f.
-      pure (Ok _) ((tt, fit-moved S (level b true) mask s f), tt))
-      (bind (sound-held p c _ _ _ here) λ s f.
-      bind (sound-walk p c _ _ path) λ t k.
-      bind (sound-vacant p c _ _ (k .place)) λ _ _.
-      pure (Ok _) ((k .own tt tt, fit-stored S (level b true) mask s f), tt))
+  sound_store : (path : List ℕ) (cur : ℕ) (mask : Option ℕ) → Sound {E = E} S b (λ w. kall_store S.rule p path cur mask w.frame) GoodPlain
+  sound_store path cur mask =
+      bind (sound_enter p c _ _) λ _ _.
+      branch (is_just cur path)
+      (bind (sound_held p c _ _ _ here) λ s f.
+      pure (Ok _) ((tt, fit_moved S (level b true) mask s f), tt))
+      (bind (sound_held p c _ _ _ here) λ s f.
+      bind (sound_walk p c _ _ path) λ t k.
+      bind (sound_vacant p c _ _ k.place) λ _ _.
+      pure (Ok _) ((k.own tt tt, fit_stored S (level b true) mask s f), tt))
 
-  sound-appending : (ks : List ℕ) (ch : Change) (es : List (Edit E)) (path : List ℕ) (cur : ℕ) (mask : Option ℕ)
-      → ((s : Slot) → Fit S (level b true) s → Fit S (level b true) (changed (S .rule) ch s)) → Admits-all S b p es
-      → Sound {E = E} S b (λ w. appending (S .rule) p ks ch es path cur mask (w .frame)) Good-plain
-  sound-appending ks ch es path cur mask fit also =
-      bind (sound-enter p c _ _) λ _ _.
-      bind (sound-held p c _ _ _ here) λ s f.
-      bind (sound-walk p c _ _ path) λ t k.
-      bind (sound-object-at p c _ _ _ (k .place)) λ x h.
-      bind (sound-next-slot (x .name) (kept-by b h)) λ i _.
-      pure (Ok _) ((owned-by k h tt tt tt, fit s f), also)
+  sound_appending : (ks : List ℕ) (ch : Change) (es : List (Edit E)) (path : List ℕ) (cur : ℕ) (mask : Option ℕ)
+      → ((s : Slot) → Fit S (level b true) s → Fit S (level b true) (changed S.rule ch s)) → AdmitsAll S b p es
+      → Sound {E = E} S b (λ w. appending S.rule p ks ch es path cur mask w.frame) GoodPlain
+  sound_appending ks ch es path cur mask fit also =
+      bind (sound_enter p c _ _) λ _ _.
+      bind (sound_held p c _ _ _ here) λ s f.
+      bind (sound_walk p c _ _ path) λ t k.
+      bind (sound_object_at p c _ _ _ k.place) λ x h.
+      bind (sound_next_slot x.name (kept_by b h)) λ i _.
+      pure (Ok _) ((owned_by k h tt tt tt, fit s f), also)
 
-  sound-delete : (path : List ℕ) → Sound {E = E} S b (λ w. kall-delete (S .rule) p path (w .frame)) Good-plain
-  sound-delete path =
-      bind (sound-enter p c _ _) λ _ _.
-      bind (sound-walk p c _ _ path) λ t k.
-      bind (sound-held p c _ _ _ (k .place)) λ _ _.
-      pure (Ok _) ((k .own tt tt, tt), tt)
+  sound_delete : (path : List ℕ) → Sound {E = E} S b (λ w. kall_delete S.rule p path w.frame) GoodPlain
+  sound_delete path =
+      bind (sound_enter p c _ _) λ _ _.
+      bind (sound_walk p c _ _ path) λ t k.
+      bind (sound_held p c _ _ _ k.place) λ _ _.
+      pure (Ok _) ((k.own tt tt, tt), tt)
 
-  sound-interchange : (path : List ℕ) (cur : ℕ) (mask : Option ℕ) → Sound {E = E} S b (λ w. kall-interchange (S .rule) p path cur mask (w .frame)) Good-plain
-  sound-interchange path cur mask =
-      bind (sound-enter p c _ _) λ _ _.
-      bind (sound-held p c _ _ _ here) λ s f.
-      bind (sound-walk p c _ _ path) λ t k.
-      bind (sound-held p c _ _ _ (k .place)) λ r h.
-      pure (Ok _) ((tt, fit-taken S b (t .clear) r h), ((k .own tt tt, fit-moved S (level b true) mask s f), tt))
+  sound_interchange : (path : List ℕ) (cur : ℕ) (mask : Option ℕ) → Sound {E = E} S b (λ w. kall_interchange S.rule p path cur mask w.frame) GoodPlain
+  sound_interchange path cur mask =
+      bind (sound_enter p c _ _) λ _ _.
+      bind (sound_held p c _ _ _ here) λ s f.
+      bind (sound_walk p c _ _ path) λ t k.
+      bind (sound_held p c _ _ _ k.place) λ r h.
+      pure (Ok _) ((tt, fit_taken S b t.clear r h), ((k.own tt tt, fit_moved S (level b true) mask s f), tt))
 
-  sound-making : (kind : ℕ) (path : List ℕ) (mask : Option ℕ) (given : Result (List E) Fault) → Sound {E = E} S b (λ w. making (S .rule) p kind path mask given (w .frame)) Good-plain
-  sound-making kind path mask given =
-      bind (sound-enter p c _ _) λ _ h.
-      bind (sound-walk p c _ _ path) λ t k.
-      bind (sound-vacant p c _ _ (k .place)) λ _ _.
-      bind {Q = λ _. Unit {0}} (pure given (on-any S _)) λ xs _.
-      bind (sound-new-object p c xs) λ n _.
-      pure (Ok _) (h, ((k .own tt tt, new-side S b p n _ c h), tt))
+  sound_making : (kind : ℕ) (path : List ℕ) (mask : Option ℕ) (given : Result (List E) Fault) → Sound {E = E} S b (λ w. making S.rule p kind path mask given w.frame) GoodPlain
+  sound_making kind path mask given =
+      bind (sound_enter p c _ _) λ _ h.
+      bind (sound_walk p c _ _ path) λ t k.
+      bind (sound_vacant p c _ _ k.place) λ _ _.
+      bind {Q = λ _. Unit {0}} (pure given (on_any S _)) λ xs _.
+      bind (sound_new_object p c xs) λ n _.
+      pure (Ok _) (h, ((k.own tt tt, new_side S b p n _ c h), tt))
 
-  sound-write-at : (k : ℕ) (path : List ℕ) → Sound {E = E} S b (λ w. write-at (S .rule) p k path (w .frame)) (λ x. (b ≡ true → S .Kept (x .name)) × Own S b (x .name))
-  sound-write-at k path =
-      bind (sound-enter p c _ _) λ _ _.
-      bind (sound-walk p c _ _ path) λ t st.
-      weaken (sound-object-at p c _ _ _ (st .place)) λ x h. (kept-by b h, owned-by st h tt tt (modify k))
+  sound_write_at : (k : ℕ) (path : List ℕ) → Sound {E = E} S b (λ w. write_at S.rule p k path w.frame) (λ x. (b ≡ true → S.Kept x.name) × Own S b x.name)
+  sound_write_at k path =
+      bind (sound_enter p c _ _) λ _ _.
+      bind (sound_walk p c _ _ path) λ t st.
+      weaken (sound_object_at p c _ _ _ st.place) λ x h. (kept_by b h, owned_by st h tt tt (modify k))
     where
       modify : (k : ℕ) → T (asks mdfyrts (k ∷ mdfyrts ∷ []))
       modify k = go (eqb k mdfyrts)
@@ -214,46 +202,46 @@ module _ {E : Type 0} (S : Setting) (b : Bool) (p : ℕ) (c : S .cast p ≡ b) w
           go true = tt
           go false = tt
 
-  sound-filling : (n : Name) (k : List E → Result (List E) Fault) → (b ≡ true → S .Kept n) → Own S b n
-      → Sound {E = E} S b (λ w. after (k (w .elements n)) (λ ys. Ok (record { value = pos 0; edits = fill n ys ∷ [] }))) Good-plain
-  sound-filling n k kept own =
-      sound-elements n kept (λ part. after (k part) (λ ys. Ok (record { value = pos 0; edits = fill n ys ∷ [] }))) (λ part. fine (k part))
+  sound_filling : (n : Name) (k : List E → Result (List E) Fault) → (b ≡ true → S.Kept n) → Own S b n
+      → Sound {E = E} S b (λ w. after (k (w.elements n)) (λ ys. Ok (record { value = pos 0; edits = fill n ys ∷ [] }))) GoodPlain
+  sound_filling n k kept own =
+      sound_elements n kept (λ part. after (k part) (λ ys. Ok (record { value = pos 0; edits = fill n ys ∷ [] }))) (λ part. fine (k part))
     where
-      fine : (r : Result (List E) Fault) → On Good-plain (after r (λ ys. Ok (record { value = pos 0; edits = fill n ys ∷ [] })))
+      fine : (r : Result (List E) Fault) → On GoodPlain (after r (λ ys. Ok (record { value = pos 0; edits = fill n ys ∷ [] })))
       fine (Ok ys) = (own, tt)
       fine (Err e) = tt
 
-  sound-putdata : (path : List ℕ) (disp knt : ℕ) (xs : List E) → Sound {E = E} S b (kall-putdata (S .rule) p path disp knt xs) Good-plain
-  sound-putdata path disp knt xs =
-      bind (sound-write-at _ path) λ x h.
-      sound-filling (x .name) (overwritten disp knt xs) (h .0) (h .1)
+  sound_putdata : (path : List ℕ) (disp knt : ℕ) (xs : List E) → Sound {E = E} S b (kall_putdata S.rule p path disp knt xs) GoodPlain
+  sound_putdata path disp knt xs =
+      bind (sound_write_at _ path) λ x h.
+      sound_filling x.name (overwritten disp knt xs) h.0 h.1
 
-  sound-addata : (path : List ℕ) (knt : ℕ) (xs : List E) → Sound {E = E} S b (kall-addata (S .rule) p path knt xs) Good-plain
-  sound-addata path knt xs =
-      bind (sound-write-at _ path) λ x h.
-      bind (sound-part-limit (x .name) (h .0)) λ most _.
-      sound-filling (x .name) (lengthened knt most xs) (h .0) (h .1)
+  sound_addata : (path : List ℕ) (knt : ℕ) (xs : List E) → Sound {E = E} S b (kall_addata S.rule p path knt xs) GoodPlain
+  sound_addata path knt xs =
+      bind (sound_write_at _ path) λ x h.
+      bind (sound_part_limit x.name h.0) λ most _.
+      sound_filling x.name (lengthened knt most xs) h.0 h.1
 
-  sound-erase : (path : List ℕ) → Sound {E = E} S b (λ w. kall-erase (S .rule) p path (w .frame)) Good-plain
-  sound-erase path =
-      bind (sound-write-at _ path) λ x h.
-      pure (Ok _) (h .1, tt)
+  sound_erase : (path : List ℕ) → Sound {E = E} S b (λ w. kall_erase S.rule p path w.frame) GoodPlain
+  sound_erase path =
+      bind (sound_write_at _ path) λ x h.
+      pure (Ok _) (h.1, tt)
 
-  pub sound-plan : (k : Kall) (xs : List E) → Sound {E = E} S b (plan (S .rule) p k xs) Good
-  sound-plan Lenth xs = plainly sound-lenth
-  sound-plan (Clenth path) xs = plainly (sound-clenth (vec-items path))
-  sound-plan (Dlenth path) xs = plainly (sound-dlenth (vec-items path))
-  sound-plan (Getdata path disp knt) xs = sound-getdata (vec-items path) disp knt xs
-  sound-plan (Load new path) xs = plainly (sound-load new (vec-items path))
-  sound-plan (Pass path cur mask) xs = plainly (sound-pass (vec-items path) cur mask)
-  sound-plan (Take new path) xs = plainly (sound-take new (vec-items path))
-  sound-plan (Store path cur mask) xs = plainly (sound-store (vec-items path) cur mask)
-  sound-plan (Append path cur mask) xs = plainly (sound-appending _ (Stored mask) [] (vec-items path) cur mask (fit-stored S (level b true) mask) tt)
-  sound-plan (Passappend path cur mask) xs = plainly (sound-appending _ (Moved mask) _ (vec-items path) cur mask (fit-moved S (level b true) mask) ((tt, tt), tt))
-  sound-plan (Delete path) xs = plainly (sound-delete (vec-items path))
-  sound-plan (Interchange path cur mask) xs = plainly (sound-interchange (vec-items path) cur mask)
-  sound-plan (Data path knt mask) xs = plainly (sound-making 1 (vec-items path) mask _)
-  sound-plan (Univ path) xs = plainly (sound-making 2 (vec-items path) None (Ok []))
-  sound-plan (Putdata path disp knt) xs = plainly (sound-putdata (vec-items path) disp knt xs)
-  sound-plan (Addata path knt) xs = plainly (sound-addata (vec-items path) knt xs)
-  sound-plan (Erase path) xs = plainly (sound-erase (vec-items path))
+  pub sound_plan : (k : Kall) (xs : List E) → Sound {E = E} S b (plan S.rule p k xs) Good
+  sound_plan Lenth xs = plainly sound_lenth
+  sound_plan (Clenth path) xs = plainly (sound_clenth (vec_items path))
+  sound_plan (Dlenth path) xs = plainly (sound_dlenth (vec_items path))
+  sound_plan (Getdata path disp knt) xs = sound_getdata (vec_items path) disp knt xs
+  sound_plan (Load new path) xs = plainly (sound_load new (vec_items path))
+  sound_plan (Pass path cur mask) xs = plainly (sound_pass (vec_items path) cur mask)
+  sound_plan (Take new path) xs = plainly (sound_take new (vec_items path))
+  sound_plan (Store path cur mask) xs = plainly (sound_store (vec_items path) cur mask)
+  sound_plan (Append path cur mask) xs = plainly (sound_appending _ (Stored mask) [] (vec_items path) cur mask (fit_stored S (level b true) mask) tt)
+  sound_plan (Passappend path cur mask) xs = plainly (sound_appending _ (Moved mask) _ (vec_items path) cur mask (fit_moved S (level b true) mask) ((tt, tt), tt))
+  sound_plan (Delete path) xs = plainly (sound_delete (vec_items path))
+  sound_plan (Interchange path cur mask) xs = plainly (sound_interchange (vec_items path) cur mask)
+  sound_plan (Data path knt mask) xs = plainly (sound_making 1 (vec_items path) mask _)
+  sound_plan (Univ path) xs = plainly (sound_making 2 (vec_items path) None (Ok []))
+  sound_plan (Putdata path disp knt) xs = plainly (sound_putdata (vec_items path) disp knt xs)
+  sound_plan (Addata path knt) xs = plainly (sound_addata (vec_items path) knt xs)
+  sound_plan (Erase path) xs = plainly (sound_erase (vec_items path))

@@ -1,92 +1,82 @@
 -- How edits change the scene, the kalls, and runs of requests.
-use mathlib.Core.List.{List, [], _∷_, _++_}
-use mathlib.Core.Bool.{Bool, cond, _&&_}
-use Prim.Native.Nat.{ℕ, _+_, _-_}
-use lib.Dec.{eqb, leb, ltb}
-use lib.IntN.{ℤ, pos}
-use lib.ListN.{length, getD, set, take, drop, replicate}
-use Rattle·std.specs.declared.option.Option.{Option}
-use Rattle·std.specs.declared.option.Option.the-variants.{Some, None}
-use Rattle·std.specs.declared.result.Result.{Result}
-use Rattle·std.specs.declared.result.Result.the-variants.{Ok, Err}
-use Rattle·std.specs.Of.Vec.{vec-items}
-use Rattle·model·specs.declared.kinds.Name.{Name}
-use Rattle·model·specs.declared.kinds.Cap.{Cap}
-use Rattle·model·specs.declared.kinds.Slot.{Slot}
-use Rattle·model·specs.declared.kinds.Slot.the-variants.{Empty, Capability, Template}
-use Rattle·model·specs.declared.kinds.Space.{Space}
-use Rattle·model·specs.declared.kinds.Change.{Change}
-use Rattle·model·specs.declared.kinds.Change.the-variants.{Taken, Loaded, Moved, Stored}
-use Rattle·model·specs.declared.kinds.Holder.{Holder}
-use Rattle·model·specs.declared.kinds.Holder.the-variants.{Mine, Listed}
-use Rattle·model·specs.declared.kinds.Kall.{Kall}
-use Rattle·model·specs.declared.kinds.Kall.the-variants.{Lenth, Clenth, Dlenth, Getdata, Load, Pass, Take, Store, Append, Passappend, Delete, Interchange, Data, Univ, Putdata, Addata, Erase}
-use Rattle·model·specs.declared.signals.Fault.{Fault}
-use Rattle·model·specs.declared.signals.Signal.the-variants.{Slim}
-use Rattle·model·specs.Signals.{fault}
-use Rattle·model·specs.Model.{Body, Task, Frame, World, Rule, dltrts, envrts, loadrts, storts, apprts, killrts, getrts, mdfyrts, ucnfrts, putrts, addrrts, eraserts}
-use Rattle·model·specs.Plan.{Plan, after, _>>=_, _>>_, runs, enter, length-of, list-length, next-slot, vacant, held, object-at, walk, new-object, part-limit}
+use Rattle.std.specs.Prelude.{ℕ, ◌+◌, ◌-◌, Bool, cond, ◌&&◌, List, [], ◌∷◌, ◌++◌, length, take, drop, set, replicate, ℤ, pos, Some, None, Ok, Err, vec_items, Option, Result, ◌==◌, nat_le, nat_lt, slice_index, slice_set}
+use Rattle.model.specs.declared.kinds.Name.{Name}
+use Rattle.model.specs.declared.kinds.Cap.{Cap}
+use Rattle.model.specs.declared.kinds.Slot.{Slot}
+use Rattle.model.specs.declared.kinds.Slot.TheVariants.{Empty, Capability, Template}
+use Rattle.model.specs.declared.kinds.Space.{Space}
+use Rattle.model.specs.declared.kinds.Change.{Change}
+use Rattle.model.specs.declared.kinds.Change.TheVariants.{Taken, Loaded, Moved, Stored}
+use Rattle.model.specs.declared.kinds.Holder.{Holder}
+use Rattle.model.specs.declared.kinds.Holder.TheVariants.{Mine, Listed}
+use Rattle.model.specs.declared.kinds.Kall.{Kall}
+use Rattle.model.specs.declared.kinds.Kall.TheVariants.{Lenth, Clenth, Dlenth, Getdata, Load, Pass, Take, Store, Append, Passappend, Delete, Interchange, Data, Univ, Putdata, Addata, Erase}
+use Rattle.model.specs.declared.signals.Fault.{Fault}
+use Rattle.model.specs.declared.signals.Signal.TheVariants.{Slim}
+use Rattle.model.specs.Signals.{fault}
+use Rattle.model.specs.Model.{Body, Task, Frame, World, Rule, dltrts, envrts, loadrts, storts, apprts, killrts, getrts, mdfyrts, ucnfrts, putrts, addrrts, eraserts}
+use Rattle.model.specs.Plan.{Plan, after, ◌>>=◌, ◌>>◌, runs, enter, length_of, list_length, next_slot, vacant, held, object_at, walk, new_object, part_limit}
 
-abbrev pub same-name : Name → Name → Bool
-same-name n m = eqb (n .share) (m .share) && eqb (n .number) (m .number)
+abbrev pub same_name : Name → Name → Bool
+same_name n m = n.share == m.share && n.number == m.number
 
-unfoldable pub on-object : Name → (Option Body → Option Body) → Frame → Frame
-on-object n g f =
-    record { object = λ m. cond (same-name m n) (g (f .object m)) (f .object m); living = f .living; given = f .given; process = f .process }
+unfoldable pub on_object : Name → (Option Body → Option Body) → Frame → Frame
+on_object n g f =
+    record { object = λ m. cond (same_name m n) (g (f.object m)) (f.object m); living = f.living; given = f.given; process = f.process }
 
-unfoldable pub on-process : ℕ → (Option Task → Option Task) → Frame → Frame
-on-process p g f =
-    record { object = f .object; living = f .living; given = f .given; process = λ q. cond (eqb q p) (g (f .process q)) (f .process q) }
+unfoldable pub on_process : ℕ → (Option Task → Option Task) → Frame → Frame
+on_process p g f =
+    record { object = f.object; living = f.living; given = f.given; process = λ q. cond (q == p) (g (f.process q)) (f.process q) }
 
-unfoldable pub on-living : ℕ → (ℕ → ℕ) → Frame → Frame
-on-living s g f =
-    record { object = f .object; living = λ t. cond (eqb t s) (g (f .living t)) (f .living t); given = f .given; process = f .process }
+unfoldable pub on_living : ℕ → (ℕ → ℕ) → Frame → Frame
+on_living s g f =
+    record { object = f.object; living = λ t. cond (t == s) (g (f.living t)) (f.living t); given = f.given; process = f.process }
 
-unfoldable pub on-given : ℕ → (ℕ → ℕ) → Frame → Frame
-on-given s g f =
-    record { object = f .object; living = f .living; given = λ t. cond (eqb t s) (g (f .given t)) (f .given t); process = f .process }
+unfoldable pub on_given : ℕ → (ℕ → ℕ) → Frame → Frame
+on_given s g f =
+    record { object = f.object; living = f.living; given = λ t. cond (t == s) (g (f.given t)) (f.given t); process = f.process }
 
 abbrev pub lifted : {A : Type 0} → (A → A) → Option A → Option A
 lifted g None = None
 lifted g (Some a) = Some (g a)
 
 -- slots by an index from 0
-abbrev pub put-top : ℕ → Slot → List Space → List Space
-put-top i s [] = []
-put-top i s (sp ∷ l) = cond (ltb i 12) (record { slots = set (sp .slots) i s; back = sp .back } ∷ l) (sp ∷ l)
+abbrev pub put_top : ℕ → Slot → List Space → List Space
+put_top i s [] = []
+put_top i s (sp ∷ l) = cond (nat_lt i 12) (record { slots = slice_set sp.slots i s; back = sp.back } ∷ l) (sp ∷ l)
 
 abbrev pub respaced : (List Space → List Space) → Task → Task
-respaced g t = record { running = t .running; spaces = g (t .spaces) }
+respaced g t = record { running = t.running; spaces = g t.spaces }
 
 abbrev pub relisted : (List Slot → List Slot) → Body → Body
-relisted g o = record { kind = o .kind; list = g (o .list) }
+relisted g o = record { kind = o.kind; list = g o.list }
 
-unfoldable pub put-own : ℕ → ℕ → Slot → Frame → Frame
-put-own p i s f = on-process p (lifted (respaced (put-top i s))) f
+unfoldable pub put_own : ℕ → ℕ → Slot → Frame → Frame
+put_own p i s f = on_process p (lifted (respaced (put_top i s))) f
 
-unfoldable pub put-listed : Name → ℕ → Slot → Frame → Frame
-put-listed n i s f = on-object n (lifted (relisted (λ l. set l i s))) f
+unfoldable pub put_listed : Name → ℕ → Slot → Frame → Frame
+put_listed n i s f = on_object n (lifted (relisted (λ l. set l i s))) f
 
-abbrev pub put-in : ℕ → Holder → ℕ → Slot → Frame → Frame
-put-in p Mine i s f = put-own p i s f
-put-in p (Listed n) i s f = put-listed n i s f
+abbrev pub put_in : ℕ → Holder → ℕ → Slot → Frame → Frame
+put_in p Mine i s f = put_own p i s f
+put_in p (Listed n) i s f = put_listed n i s f
 
 abbrev pub fresh : ℕ → Option Body
 fresh kind = Some (record { kind = kind; list = replicate 8 Empty })
 
 -- the name of the share's next object
 abbrev pub next : ℕ → Frame → Name
-next s f = record { share = s; number = f .given s + 1 }
+next s f = record { share = s; number = f.given s + 1 }
 
 abbrev pub made : ℕ → ℕ → Frame → Frame
-made s kind f = on-living s (λ k. k + 1) (on-given s (λ k. k + 1) (on-object (next s f) (λ o. fresh kind) f))
+made s kind f = on_living s (λ k. k + 1) (on_given s (λ k. k + 1) (on_object (next s f) (λ o. fresh kind) f))
 
 unfoldable pub refilled : {E : Type 0} → Name → List E → (Name → List E) → Name → List E
-refilled n xs h = λ m. cond (same-name m n) xs (h m)
+refilled n xs h = λ m. cond (same_name m n) xs (h m)
 
 -- an object ends, and its list
 abbrev pub unmade : Name → Frame → Frame
-unmade n f = on-living (n .share) (λ k. k - 1) (on-object n (λ o. None) f)
+unmade n f = on_living n.share (λ k. k - 1) (on_object n (λ o. None) f)
 
 -- what is done to a scene, p being the caller: a slot is put at an index from 1, an object of p's share is made with its elements,
 -- an object is given other elements, an object ends
@@ -97,14 +87,14 @@ pub data Edit (E : Type 0) : Type 0 where
   finish : Name → Edit E
 
 abbrev pub apply : {E : Type 0} → ℕ → Edit E → World E → World E
-apply p (put h i s) w = record { frame = put-in p h (i - 1) s (w .frame); elements = w .elements }
-apply p (make kind xs) w = record { frame = made p kind (w .frame); elements = refilled (next p (w .frame)) xs (w .elements) }
-apply p (fill n xs) w = record { frame = w .frame; elements = refilled n xs (w .elements) }
-apply p (finish n) w = record { frame = unmade n (w .frame); elements = refilled n [] (w .elements) }
+apply p (put h i s) w = record { frame = put_in p h (i - 1) s w.frame; elements = w.elements }
+apply p (make kind xs) w = record { frame = made p kind w.frame; elements = refilled (next p w.frame) xs w.elements }
+apply p (fill n xs) w = record { frame = w.frame; elements = refilled n xs w.elements }
+apply p (finish n) w = record { frame = unmade n w.frame; elements = refilled n [] w.elements }
 
-abbrev pub apply-all : {E : Type 0} → ℕ → List (Edit E) → World E → World E
-apply-all p [] w = w
-apply-all p (e ∷ es) w = apply-all p es (apply p e w)
+abbrev pub apply_all : {E : Type 0} → ℕ → List (Edit E) → World E → World E
+apply_all p [] w = w
+apply_all p (e ∷ es) w = apply_all p es (apply p e w)
 
 -- what a kall comes to: its value, and the edits to be made
 pub record Plain (E : Type 0) : Type 0 where
@@ -120,49 +110,49 @@ pub record Outcome (E : Type 0) : Type 0 where
 -- under a mask, where one is given
 abbrev pub masked : Rule → Option ℕ → ℕ → ℕ
 masked rule None r = r
-masked rule (Some m) r = rule .restrict r m
+masked rule (Some m) r = rule.restrict r m
 
 -- what was reached is stripped unless the way was clear
 abbrev pub confined : Rule → Bool → ℕ → ℕ
-confined rule clear r = cond clear r (rule .strip r)
+confined rule clear r = cond clear r (rule.strip r)
 
 abbrev pub recode : Rule → Change → ℕ → ℕ
 recode rule (Taken clear) r = confined rule clear r
-recode rule (Loaded clear) r = rule .add-delete (confined rule clear r)
+recode rule (Loaded clear) r = rule.add_delete (confined rule clear r)
 recode rule (Moved mask) r = masked rule mask r
-recode rule (Stored mask) r = masked rule mask (rule .add-delete r)
+recode rule (Stored mask) r = masked rule mask (rule.add_delete r)
 
-abbrev pub on-rights : (ℕ → ℕ) → Slot → Slot
-on-rights g Empty = Empty
-on-rights g (Capability c) = Capability (record { name = c .name; rights = g (c .rights) })
-on-rights g (Template t) = Template (record { rights = g (t .rights); wanted = t .wanted; check = t .check; new = t .new })
+abbrev pub on_rights : (ℕ → ℕ) → Slot → Slot
+on_rights g Empty = Empty
+on_rights g (Capability c) = Capability (record { name = c.name; rights = g c.rights })
+on_rights g (Template t) = Template (record { rights = g t.rights; wanted = t.wanted; check = t.check; new = t.new })
 
 unfoldable pub changed : Rule → Change → Slot → Slot
-changed rule ch s = on-rights (recode rule ch) s
+changed rule ch s = on_rights (recode rule ch) s
 
 -- the path is the one index i
-abbrev pub is-just : ℕ → List ℕ → Bool
-is-just i path = eqb (length path) 1 && eqb (getD path 0 0) i
+abbrev pub is_just : ℕ → List ℕ → Bool
+is_just i path = length path == 1 && slice_index path 0 == i
 
 -- what a slot must grant to leave the name space by the path
 abbrev pub leaving : List ℕ → List ℕ
-leaving path = cond (eqb (length path) 1) [] (envrts ∷ [])
+leaving path = cond (length path == 1) [] (envrts ∷ [])
 
 -- the block of a data part that is asked for, to the part's end at most; `given` is the buffer's length
 abbrev pub block : {E : Type 0} → ℕ → ℕ → ℕ → List E → Result (List E) Fault
 block disp knt given xs =
-    cond ((leb 1 disp && leb disp (length xs)) && (leb 1 knt && leb knt given)) (Ok (take knt (drop (disp - 1) xs))) (Err (fault Slim 0))
+    cond ((nat_le 1 disp && nat_le disp (length xs)) && (nat_le 1 knt && nat_le knt given)) (Ok (take knt (drop (disp - 1) xs))) (Err (fault Slim 0))
 
 -- a part with a block of it replaced by the buffer's first knt elements
 abbrev pub overwritten : {E : Type 0} → ℕ → ℕ → List E → List E → Result (List E) Fault
 overwritten disp knt xs part =
-    cond (((leb 1 disp && leb 1 knt) && leb knt (length xs)) && leb (disp - 1 + knt) (length part))
+    cond (((nat_le 1 disp && nat_le 1 knt) && nat_le knt (length xs)) && nat_le (disp - 1 + knt) (length part))
     (Ok (take (disp - 1) part ++ (take knt xs ++ drop (disp - 1 + knt) part))) (Err (fault Slim 0))
 
 -- a part with the buffer's first knt elements after it
 abbrev pub lengthened : {E : Type 0} → ℕ → ℕ → List E → List E → Result (List E) Fault
 lengthened knt most xs part =
-    cond ((leb 1 knt && leb knt (length xs)) && leb (length part + knt) most) (Ok (part ++ take knt xs)) (Err (fault Slim 0))
+    cond ((nat_le 1 knt && nat_le knt (length xs)) && nat_le (length part + knt) most) (Ok (part ++ take knt xs)) (Err (fault Slim 0))
 
 -- a block at the buffer's front, the rest of the buffer as it was
 abbrev pub copied : {E : Type 0} → List E → List E → Outcome E
@@ -174,92 +164,92 @@ writing = loadrts ∷ ucnfrts ∷ []
 
 module _ (rule : Rule) (p : ℕ) where
   -- an object at the end of a reading walk, with the right k
-  abbrev pub read-at : ℕ → List ℕ → Plan Frame Cap
-  read-at k path = do
+  abbrev pub read_at : ℕ → List ℕ → Plan Frame Cap
+  read_at k path = do
     enter rule p None (length path)
     t ← walk rule (loadrts ∷ []) (loadrts ∷ []) p path
-    object-at rule (k ∷ []) p (t .holder) (t .index) (t .at)
+    object_at rule (k ∷ []) p t.holder t.index t.at
 
   -- a capability for a new object of the caller's
   abbrev pub whole : ℕ → Option ℕ → Slot
-  whole n mask = Capability (record { name = record { share = p; number = n }; rights = masked rule mask (rule .full) })
+  whole n mask = Capability (record { name = record { share = p; number = n }; rights = masked rule mask rule.full })
 
   -- an object at the end of an open writing walk, with the rights to modify it and k
-  abbrev pub write-at : ℕ → List ℕ → Plan Frame Cap
-  write-at k path = do
+  abbrev pub write_at : ℕ → List ℕ → Plan Frame Cap
+  write_at k path = do
     enter rule p None (length path)
     t ← walk rule writing writing p path
-    object-at rule (k ∷ mdfyrts ∷ []) p (t .holder) (t .index) (t .at)
+    object_at rule (k ∷ mdfyrts ∷ []) p t.holder t.index t.at
 
 module _ {E : Type 0} (rule : Rule) (p : ℕ) where
   abbrev pub done : ℤ → List (Edit E) → Plan Frame (Plain E)
   done v es = λ _. Ok (record { value = v; edits = es })
 
   -- the kalls
-  abbrev pub kall-lenth : Plan Frame (Plain E)
-  kall-lenth = do
+  abbrev pub kall_lenth : Plan Frame (Plain E)
+  kall_lenth = do
     runs p
-    n ← length-of p
+    n ← length_of p
     done (pos n) []
 
-  abbrev pub kall-clenth : List ℕ → Plan Frame (Plain E)
-  kall-clenth path = do
-    c ← read-at rule p loadrts path
-    n ← list-length (c .name)
+  abbrev pub kall_clenth : List ℕ → Plan Frame (Plain E)
+  kall_clenth path = do
+    c ← read_at rule p loadrts path
+    n ← list_length c.name
     done (pos n) []
 
-  abbrev pub kall-dlenth : List ℕ → Plan (World E) (Plain E)
-  kall-dlenth path w =
-      after (read-at rule p getrts path (w .frame)) λ c.
-      Ok (record { value = pos (length (w .elements (c .name))); edits = [] })
+  abbrev pub kall_dlenth : List ℕ → Plan (World E) (Plain E)
+  kall_dlenth path w =
+      after (read_at rule p getrts path w.frame) λ c.
+      Ok (record { value = pos (length (w.elements c.name)); edits = [] })
 
-  abbrev pub kall-getdata : List ℕ → ℕ → ℕ → List E → Plan (World E) (Outcome E)
-  kall-getdata path disp knt xs w =
-      after (read-at rule p getrts path (w .frame)) λ c.
-      after (block disp knt (length xs) (w .elements (c .name))) λ ys.
+  abbrev pub kall_getdata : List ℕ → ℕ → ℕ → List E → Plan (World E) (Outcome E)
+  kall_getdata path disp knt xs w =
+      after (read_at rule p getrts path w.frame) λ c.
+      after (block disp knt (length xs) (w.elements c.name)) λ ys.
       Ok (copied xs ys)
 
-  abbrev pub kall-load : ℕ → List ℕ → Plan Frame (Plain E)
-  kall-load new path = do
+  abbrev pub kall_load : ℕ → List ℕ → Plan Frame (Plain E)
+  kall_load new path = do
     enter rule p None (length path)
     vacant p Mine new 0
     t ← walk rule (loadrts ∷ []) (loadrts ∷ []) p path
-    s ← held rule [] p (t .holder) (t .index) (t .at)
-    done (pos 0) (put Mine new (changed rule (Loaded (t .clear)) s) ∷ [])
+    s ← held rule [] p t.holder t.index t.at
+    done (pos 0) (put Mine new (changed rule (Loaded t.clear) s) ∷ [])
 
-  abbrev pub kall-pass : List ℕ → ℕ → Option ℕ → Plan Frame (Plain E)
-  kall-pass path cur mask = do
+  abbrev pub kall_pass : List ℕ → ℕ → Option ℕ → Plan Frame (Plain E)
+  kall_pass path cur mask = do
     enter rule p mask (length path)
     s ← held rule (dltrts ∷ leaving path) p Mine cur 0
     t ← walk rule writing (storts ∷ mdfyrts ∷ []) p path
-    vacant p (t .holder) (t .index) (t .at)
-    done (pos 0) (put (t .holder) (t .index) (changed rule (Moved mask) s) ∷ put Mine cur Empty ∷ [])
+    vacant p t.holder t.index t.at
+    done (pos 0) (put t.holder t.index (changed rule (Moved mask) s) ∷ put Mine cur Empty ∷ [])
 
-  abbrev pub kall-take : ℕ → List ℕ → Plan Frame (Plain E)
-  kall-take new path = do
+  abbrev pub kall_take : ℕ → List ℕ → Plan Frame (Plain E)
+  kall_take new path = do
     enter rule p None (length path)
     vacant p Mine new 0
     t ← walk rule writing (killrts ∷ loadrts ∷ mdfyrts ∷ []) p path
-    s ← held rule (dltrts ∷ []) p (t .holder) (t .index) (t .at)
-    done (pos 0) (put Mine new (changed rule (Taken (t .clear)) s) ∷ put (t .holder) (t .index) Empty ∷ [])
+    s ← held rule (dltrts ∷ []) p t.holder t.index t.at
+    done (pos 0) (put Mine new (changed rule (Taken t.clear) s) ∷ put t.holder t.index Empty ∷ [])
 
   -- in place, and elsewhere
-  abbrev pub store-here : ℕ → Option ℕ → Plan Frame (Plain E)
-  store-here cur mask = do
+  abbrev pub store_here : ℕ → Option ℕ → Plan Frame (Plain E)
+  store_here cur mask = do
     s ← held rule (dltrts ∷ []) p Mine cur 0
     done (pos 0) (put Mine cur (changed rule (Moved mask) s) ∷ [])
 
-  abbrev pub store-there : List ℕ → ℕ → Option ℕ → Plan Frame (Plain E)
-  store-there path cur mask = do
+  abbrev pub store_there : List ℕ → ℕ → Option ℕ → Plan Frame (Plain E)
+  store_there path cur mask = do
     s ← held rule (leaving path) p Mine cur 0
     t ← walk rule writing (storts ∷ mdfyrts ∷ []) p path
-    vacant p (t .holder) (t .index) (t .at)
-    done (pos 0) (put (t .holder) (t .index) (changed rule (Stored mask) s) ∷ [])
+    vacant p t.holder t.index t.at
+    done (pos 0) (put t.holder t.index (changed rule (Stored mask) s) ∷ [])
 
-  abbrev pub kall-store : List ℕ → ℕ → Option ℕ → Plan Frame (Plain E)
-  kall-store path cur mask = do
+  abbrev pub kall_store : List ℕ → ℕ → Option ℕ → Plan Frame (Plain E)
+  kall_store path cur mask = do
     enter rule p mask (length path)
-    λ f. cond (is-just cur path) (store-here cur mask f) (store-there path cur mask f)
+    λ f. cond (is_just cur path) (store_here cur mask f) (store_there path cur mask f)
 
   -- a slot of the name space goes, changed, after the length of a list; `es` is what else is done
   abbrev pub appending : List ℕ → Change → List (Edit E) → List ℕ → ℕ → Option ℕ → Plan Frame (Plain E)
@@ -267,88 +257,88 @@ module _ {E : Type 0} (rule : Rule) (p : ℕ) where
     enter rule p mask (length path)
     s ← held rule ks p Mine cur 0
     t ← walk rule writing writing p path
-    c ← object-at rule (mdfyrts ∷ apprts ∷ []) p (t .holder) (t .index) (t .at)
-    i ← next-slot (c .name)
-    done (pos 0) (put (Listed (c .name)) i (changed rule ch s) ∷ es)
+    c ← object_at rule (mdfyrts ∷ apprts ∷ []) p t.holder t.index t.at
+    i ← next_slot c.name
+    done (pos 0) (put (Listed c.name) i (changed rule ch s) ∷ es)
 
-  abbrev pub kall-append : List ℕ → ℕ → Option ℕ → Plan Frame (Plain E)
-  kall-append path cur mask = appending (envrts ∷ []) (Stored mask) [] path cur mask
+  abbrev pub kall_append : List ℕ → ℕ → Option ℕ → Plan Frame (Plain E)
+  kall_append path cur mask = appending (envrts ∷ []) (Stored mask) [] path cur mask
 
-  abbrev pub kall-passappend : List ℕ → ℕ → Option ℕ → Plan Frame (Plain E)
-  kall-passappend path cur mask = appending (envrts ∷ dltrts ∷ []) (Moved mask) (put Mine cur Empty ∷ []) path cur mask
+  abbrev pub kall_passappend : List ℕ → ℕ → Option ℕ → Plan Frame (Plain E)
+  kall_passappend path cur mask = appending (envrts ∷ dltrts ∷ []) (Moved mask) (put Mine cur Empty ∷ []) path cur mask
 
-  abbrev pub kall-delete : List ℕ → Plan Frame (Plain E)
-  kall-delete path = do
+  abbrev pub kall_delete : List ℕ → Plan Frame (Plain E)
+  kall_delete path = do
     enter rule p None (length path)
     t ← walk rule writing (mdfyrts ∷ killrts ∷ []) p path
-    held rule (dltrts ∷ []) p (t .holder) (t .index) (t .at)
-    done (pos 0) (put (t .holder) (t .index) Empty ∷ [])
+    held rule (dltrts ∷ []) p t.holder t.index t.at
+    done (pos 0) (put t.holder t.index Empty ∷ [])
 
-  abbrev pub kall-interchange : List ℕ → ℕ → Option ℕ → Plan Frame (Plain E)
-  kall-interchange path cur mask = do
+  abbrev pub kall_interchange : List ℕ → ℕ → Option ℕ → Plan Frame (Plain E)
+  kall_interchange path cur mask = do
     enter rule p mask (length path)
     s ← held rule (dltrts ∷ []) p Mine cur 0
     t ← walk rule writing (mdfyrts ∷ killrts ∷ loadrts ∷ storts ∷ []) p path
-    r ← held rule (dltrts ∷ []) p (t .holder) (t .index) (t .at)
-    done (pos 0) (put Mine cur (changed rule (Taken (t .clear)) r) ∷ put (t .holder) (t .index) (changed rule (Moved mask) s) ∷ [])
+    r ← held rule (dltrts ∷ []) p t.holder t.index t.at
+    done (pos 0) (put Mine cur (changed rule (Taken t.clear) r) ∷ put t.holder t.index (changed rule (Moved mask) s) ∷ [])
 
   -- a new object, at an empty slot
   abbrev pub making : ℕ → List ℕ → Option ℕ → Result (List E) Fault → Plan Frame (Plain E)
   making kind path mask given = do
     enter rule p mask (length path)
     t ← walk rule writing (storts ∷ mdfyrts ∷ []) p path
-    vacant p (t .holder) (t .index) (t .at)
+    vacant p t.holder t.index t.at
     xs ← λ f. given
-    n ← new-object p xs
-    done (pos 0) (make kind xs ∷ put (t .holder) (t .index) (whole rule p n mask) ∷ [])
+    n ← new_object p xs
+    done (pos 0) (make kind xs ∷ put t.holder t.index (whole rule p n mask) ∷ [])
 
-  abbrev pub kall-data : List ℕ → ℕ → Option ℕ → List E → Plan Frame (Plain E)
-  kall-data path knt mask xs = making 1 path mask (cond (leb knt (length xs)) (Ok (take knt xs)) (Err (fault Slim 0)))
+  abbrev pub kall_data : List ℕ → ℕ → Option ℕ → List E → Plan Frame (Plain E)
+  kall_data path knt mask xs = making 1 path mask (cond (nat_le knt (length xs)) (Ok (take knt xs)) (Err (fault Slim 0)))
 
-  abbrev pub kall-univ : List ℕ → Plan Frame (Plain E)
-  kall-univ path = making 2 path None (Ok [])
+  abbrev pub kall_univ : List ℕ → Plan Frame (Plain E)
+  kall_univ path = making 2 path None (Ok [])
 
-  abbrev pub kall-putdata : List ℕ → ℕ → ℕ → List E → Plan (World E) (Plain E)
-  kall-putdata path disp knt xs w =
-      after (write-at rule p putrts path (w .frame)) λ c.
-      after (overwritten disp knt xs (w .elements (c .name))) λ ys.
-      Ok (record { value = pos 0; edits = fill (c .name) ys ∷ [] })
+  abbrev pub kall_putdata : List ℕ → ℕ → ℕ → List E → Plan (World E) (Plain E)
+  kall_putdata path disp knt xs w =
+      after (write_at rule p putrts path w.frame) λ c.
+      after (overwritten disp knt xs (w.elements c.name)) λ ys.
+      Ok (record { value = pos 0; edits = fill c.name ys ∷ [] })
 
-  abbrev pub kall-addata : List ℕ → ℕ → List E → Plan (World E) (Plain E)
-  kall-addata path knt xs w =
-      after (write-at rule p addrrts path (w .frame)) λ c.
-      after (part-limit (c .name) (w .frame)) λ most.
-      after (lengthened knt most xs (w .elements (c .name))) λ ys.
-      Ok (record { value = pos 0; edits = fill (c .name) ys ∷ [] })
+  abbrev pub kall_addata : List ℕ → ℕ → List E → Plan (World E) (Plain E)
+  kall_addata path knt xs w =
+      after (write_at rule p addrrts path w.frame) λ c.
+      after (part_limit c.name w.frame) λ most.
+      after (lengthened knt most xs (w.elements c.name)) λ ys.
+      Ok (record { value = pos 0; edits = fill c.name ys ∷ [] })
 
-  abbrev pub kall-erase : List ℕ → Plan Frame (Plain E)
-  kall-erase path = do
-    c ← write-at rule p eraserts path
-    done (pos 0) (finish (c .name) ∷ [])
+  abbrev pub kall_erase : List ℕ → Plan Frame (Plain E)
+  kall_erase path = do
+    c ← write_at rule p eraserts path
+    done (pos 0) (finish c.name ∷ [])
 
 -- a kall that leaves the buffer alone
 abbrev pub plain : {E : Type 0} → Result (Plain E) Fault → Result (Outcome E) Fault
-plain (Ok o) = Ok (record { value = o .value; buffer = None; edits = o .edits })
+plain (Ok o) = Ok (record { value = o.value; buffer = None; edits = o.edits })
 plain (Err e) = Err e
 
 abbrev pub plan : {E : Type 0} → Rule → ℕ → Kall → List E → Plan (World E) (Outcome E)
-plan rule p Lenth xs w = plain (kall-lenth rule p (w .frame))
-plan rule p (Clenth path) xs w = plain (kall-clenth rule p (vec-items path) (w .frame))
-plan rule p (Dlenth path) xs w = plain (kall-dlenth rule p (vec-items path) w)
-plan rule p (Getdata path disp knt) xs w = kall-getdata rule p (vec-items path) disp knt xs w
-plan rule p (Load new path) xs w = plain (kall-load rule p new (vec-items path) (w .frame))
-plan rule p (Pass path cur mask) xs w = plain (kall-pass rule p (vec-items path) cur mask (w .frame))
-plan rule p (Take new path) xs w = plain (kall-take rule p new (vec-items path) (w .frame))
-plan rule p (Store path cur mask) xs w = plain (kall-store rule p (vec-items path) cur mask (w .frame))
-plan rule p (Append path cur mask) xs w = plain (kall-append rule p (vec-items path) cur mask (w .frame))
-plan rule p (Passappend path cur mask) xs w = plain (kall-passappend rule p (vec-items path) cur mask (w .frame))
-plan rule p (Delete path) xs w = plain (kall-delete rule p (vec-items path) (w .frame))
-plan rule p (Interchange path cur mask) xs w = plain (kall-interchange rule p (vec-items path) cur mask (w .frame))
-plan rule p (Data path knt mask) xs w = plain (kall-data rule p (vec-items path) knt mask xs (w .frame))
-plan rule p (Univ path) xs w = plain (kall-univ rule p (vec-items path) (w .frame))
-plan rule p (Putdata path disp knt) xs w = plain (kall-putdata rule p (vec-items path) disp knt xs w)
-plan rule p (Addata path knt) xs w = plain (kall-addata rule p (vec-items path) knt xs w)
-plan rule p (Erase path) xs w = plain (kall-erase rule p (vec-items path) (w .frame))
+plan rule p Lenth xs w = plain (kall_lenth rule p w.frame)
+plan rule p (Clenth path) xs w = plain (kall_clenth rule p (vec_items path) w.frame)
+plan rule p (Dlenth path) xs w = plain (kall_dlenth rule p (vec_items path) w)
+plan rule p (Getdata path disp knt) xs w = kall_getdata rule p (vec_items path) disp knt xs w
+plan rule p (Load new path) xs w = plain (kall_load rule p new (vec_items path) w.frame)
+plan rule p (Pass path cur mask) xs w = plain (kall_pass rule p (vec_items path) cur mask w.frame)
+plan rule p (Take new path) xs w = plain (kall_take rule p new (vec_items path) w.frame)
+plan rule p (Store path cur mask) xs w = plain (kall_store rule p (vec_items path) cur mask w.frame)
+plan rule p (Append path cur mask) xs w = plain (kall_append rule p (vec_items path) cur mask w.frame)
+plan rule p (Passappend path cur mask) xs w = plain (kall_passappend rule p (vec_items path) cur mask w.frame)
+plan rule p (Delete path) xs w = plain (kall_delete rule p (vec_items path) w.frame)
+plan rule p (Interchange path cur mask) xs w = plain (kall_interchange rule p (vec_items path) cur mask w.frame)
+plan rule p (Data path knt mask) xs w = plain (kall_data rule p (vec_items path) knt mask xs w.frame)
+plan rule p (Univ path) xs w = plain (kall_univ rule p (vec_items path) w.frame)
+plan rule p (Putdata path disp knt) xs w = plain (kall_putdata rule p (vec_items path) disp knt xs w)
+plan rule p (Addata path knt) xs w = plain (kall_addata rule p (vec_items path) knt xs w)
+plan rule p (Erase path) xs w = plain (kall_erase rule p (vec_items path) w.frame)
 
 -- how a kall ends that leaves the buffer alone: a fault changes nothing
 pub record Ending (E : Type 0) : Type 0 where
@@ -356,25 +346,25 @@ pub record Ending (E : Type 0) : Type 0 where
   pub after : World E
 
 abbrev pub ended : {E : Type 0} → ℕ → World E → Result (Plain E) Fault → Ending E
-ended p w (Ok o) = record { answer = Ok (o .value); after = apply-all p (o .edits) w }
+ended p w (Ok o) = record { answer = Ok o.value; after = apply_all p o.edits w }
 ended p w (Err e) = record { answer = Err e; after = w }
 
 -- how any kall ends: a fault changes neither scene nor buffer
-abbrev pub answer-of : {E : Type 0} → Result (Outcome E) Fault → Result ℤ Fault
-answer-of (Ok o) = Ok (o .value)
-answer-of (Err e) = Err e
+abbrev pub answer_of : {E : Type 0} → Result (Outcome E) Fault → Result ℤ Fault
+answer_of (Ok o) = Ok o.value
+answer_of (Err e) = Err e
 
-abbrev pub given-back : {E : Type 0} → List E → Option (List E) → List E
-given-back xs None = xs
-given-back xs (Some ys) = ys
+abbrev pub given_back : {E : Type 0} → List E → Option (List E) → List E
+given_back xs None = xs
+given_back xs (Some ys) = ys
 
-abbrev pub buffer-of : {E : Type 0} → List E → Result (Outcome E) Fault → List E
-buffer-of xs (Ok o) = given-back xs (o .buffer)
-buffer-of xs (Err e) = xs
+abbrev pub buffer_of : {E : Type 0} → List E → Result (Outcome E) Fault → List E
+buffer_of xs (Ok o) = given_back xs o.buffer
+buffer_of xs (Err e) = xs
 
-abbrev pub world-of : {E : Type 0} → ℕ → World E → Result (Outcome E) Fault → World E
-world-of p w (Ok o) = apply-all p (o .edits) w
-world-of p w (Err e) = w
+abbrev pub world_of : {E : Type 0} → ℕ → World E → Result (Outcome E) Fault → World E
+world_of p w (Ok o) = apply_all p o.edits w
+world_of p w (Err e) = w
 
 pub record Reply (E : Type 0) : Type 0 where
   pub answer : Result ℤ Fault
@@ -382,7 +372,7 @@ pub record Reply (E : Type 0) : Type 0 where
   pub after : World E
 
 abbrev pub replied : {E : Type 0} → ℕ → List E → World E → Result (Outcome E) Fault → Reply E
-replied p xs w x = record { answer = answer-of x; buffer = buffer-of xs x; after = world-of p w x }
+replied p xs w x = record { answer = answer_of x; buffer = buffer_of xs x; after = world_of p w x }
 
 -- a request, and what became of it
 pub record Asked (E : Type 0) : Type 0 where
@@ -399,10 +389,10 @@ pub record Event (E : Type 0) : Type 0 where
 
 abbrev pub serve : {E : Type 0} → Rule → Asked E → World E → Event E
 serve rule r w =
-    let x = plan rule (r .caller) (r .kall) (r .buffer) w in
-    record { caller = r .caller; kall = r .kall; answer = answer-of x; buffer = buffer-of (r .buffer) x; world = world-of (r .caller) w x }
+    let x = plan rule r.caller r.kall r.buffer w in
+    record { caller = r.caller; kall = r.kall; answer = answer_of x; buffer = buffer_of r.buffer x; world = world_of r.caller w x }
 
 -- each request's event, in order
 unfoldable pub run : {E : Type 0} → Rule → List (Asked E) → World E → List (Event E)
 run rule [] w = []
-run rule (r ∷ rs) w = let e = serve rule r w in e ∷ run rule rs (e .world)
+run rule (r ∷ rs) w = let e = serve rule r w in e ∷ run rule rs e.world

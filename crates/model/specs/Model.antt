@@ -1,14 +1,8 @@
 -- The scene as contracts see it: objects and processes by name, no places and no tables. And what a rights rule is.
-use mathlib.Core.Path.{_≡_}
-use mathlib.Core.List.{List}
-use mathlib.Core.Bool.{Bool, true, false, _&&_, _||_}
-use mathlib.Core.Logic.{_⊎_}
-use Prim.Native.Nat.{ℕ, _≤_}
-use lib.Dec.{eqb}
-use Rattle·std.specs.declared.option.Option.{Option}
-use Rattle·model·specs.declared.kinds.Name.{Name}
-use Rattle·model·specs.declared.kinds.Slot.{Slot}
-use Rattle·model·specs.declared.kinds.Space.{Space}
+use Rattle.std.specs.Prelude.{◌≡◌, ℕ, ◌≤◌, Bool, true, false, ◌&&◌, ◌||◌, ◌⊎◌, List, Option, ◌==◌}
+use Rattle.model.specs.declared.kinds.Name.{Name}
+use Rattle.model.specs.declared.kinds.Slot.{Slot}
+use Rattle.model.specs.declared.kinds.Space.{Space}
 
 -- an object, without its elements
 pub record Body : Type 0 where
@@ -77,37 +71,37 @@ pub record Rule : Type 0 where
   pub grants : ℕ → ℕ → Bool
   pub restrict : ℕ → ℕ → ℕ
   pub strip : ℕ → ℕ
-  pub add-delete : ℕ → ℕ
+  pub add_delete : ℕ → ℕ
   pub admit : ℕ → ℕ → ℕ
   pub full : ℕ
 
 -- the laws of a rule, at each right k from 0 to 20
 pub record Laws (rule : Rule) : Type 0 where
-  pub restrict-both : (r m k : ℕ) → k ≤ 20 → rule .grants (rule .restrict r m) k ≡ (rule .grants r k && rule .grants m k)
-  pub strip-less : (r k : ℕ) → k ≤ 20 → rule .grants (rule .strip r) k ≡ true → rule .grants r k ≡ true
-  pub strip-modify : (r : ℕ) → rule .grants (rule .strip r) 9 ≡ false
-  pub strip-unconfined : (r : ℕ) → rule .grants (rule .strip r) 10 ≡ false
-  pub add-delete-exact : (r k : ℕ) → k ≤ 20 → rule .grants (rule .add-delete r) k ≡ (rule .grants r k || eqb k 0)
-  pub admit-new : (a n k : ℕ) → k ≤ 20 → rule .grants (rule .admit a n) k ≡ true → rule .grants n k ≡ true
-  pub admit-given : (a n k : ℕ) → (k ≡ 1) ⊎ ((k ≡ 9) ⊎ (k ≡ 10)) → rule .grants (rule .admit a n) k ≡ true → rule .grants a k ≡ true
-  pub full-grants : (k : ℕ) → k ≤ 12 → rule .grants (rule .full) k ≡ true
-  pub zero-valid : rule .valid 0 ≡ true
-  pub restrict-valid : (r m : ℕ) → rule .valid (rule .restrict r m) ≡ true
-  pub strip-valid : (r : ℕ) → rule .valid (rule .strip r) ≡ true
-  pub add-delete-valid : (r : ℕ) → rule .valid (rule .add-delete r) ≡ true
-  pub admit-valid : (a n : ℕ) → rule .valid (rule .admit a n) ≡ true
-  pub full-valid : rule .valid (rule .full) ≡ true
+  pub restrict_both : (r m k : ℕ) → k ≤ 20 → rule.grants (rule.restrict r m) k ≡ (rule.grants r k && rule.grants m k)
+  pub strip_less : (r k : ℕ) → k ≤ 20 → rule.grants (rule.strip r) k ≡ true → rule.grants r k ≡ true
+  pub strip_modify : (r : ℕ) → rule.grants (rule.strip r) 9 ≡ false
+  pub strip_unconfined : (r : ℕ) → rule.grants (rule.strip r) 10 ≡ false
+  pub add_delete_exact : (r k : ℕ) → k ≤ 20 → rule.grants (rule.add_delete r) k ≡ (rule.grants r k || k == 0)
+  pub admit_new : (a n k : ℕ) → k ≤ 20 → rule.grants (rule.admit a n) k ≡ true → rule.grants n k ≡ true
+  pub admit_given : (a n k : ℕ) → (k ≡ 1) ⊎ ((k ≡ 9) ⊎ (k ≡ 10)) → rule.grants (rule.admit a n) k ≡ true → rule.grants a k ≡ true
+  pub full_grants : (k : ℕ) → k ≤ 12 → rule.grants rule.full k ≡ true
+  pub zero_valid : rule.valid 0 ≡ true
+  pub restrict_valid : (r m : ℕ) → rule.valid (rule.restrict r m) ≡ true
+  pub strip_valid : (r : ℕ) → rule.valid (rule.strip r) ≡ true
+  pub add_delete_valid : (r : ℕ) → rule.valid (rule.add_delete r) ≡ true
+  pub admit_valid : (a n : ℕ) → rule.valid (rule.admit a n) ≡ true
+  pub full_valid : rule.valid rule.full ≡ true
 
 -- the code c does all that 0 does, wherever it stands
-pub record As-zero (rule : Rule) (c : ℕ) : Type 0 where
-  pub grants : (k : ℕ) → rule .grants c k ≡ rule .grants 0 k
-  pub restrict : (m : ℕ) → rule .restrict c m ≡ rule .restrict 0 m
-  pub restrict-by : (r : ℕ) → rule .restrict r c ≡ rule .restrict r 0
-  pub strip : rule .strip c ≡ rule .strip 0
-  pub add-delete : rule .add-delete c ≡ rule .add-delete 0
-  pub admit : (n : ℕ) → rule .admit c n ≡ rule .admit 0 n
-  pub admit-as : (a : ℕ) → rule .admit a c ≡ rule .admit a 0
+pub record AsZero (rule : Rule) (c : ℕ) : Type 0 where
+  pub grants : (k : ℕ) → rule.grants c k ≡ rule.grants 0 k
+  pub restrict : (m : ℕ) → rule.restrict c m ≡ rule.restrict 0 m
+  pub restrict_by : (r : ℕ) → rule.restrict r c ≡ rule.restrict r 0
+  pub strip : rule.strip c ≡ rule.strip 0
+  pub add_delete : rule.add_delete c ≡ rule.add_delete 0
+  pub admit : (n : ℕ) → rule.admit c n ≡ rule.admit 0 n
+  pub admit_as : (a : ℕ) → rule.admit a c ≡ rule.admit a 0
 
 -- an invalid code is treated as code 0
-abbrev pub Invalid-as-zero : Rule → Type 0
-Invalid-as-zero rule = (c : ℕ) → rule .valid c ≡ false → As-zero rule c
+abbrev pub InvalidAsZero : Rule → Type 0
+InvalidAsZero rule = (c : ℕ) → rule.valid c ≡ false → AsZero rule c

@@ -1,8 +1,7 @@
 -- The signals: the number and the layer of each.
-use lib.IntN.{ℤ, negsuc}
-use Prim.Native.Nat.{ℕ}
-use Rattle·model·specs.declared.signals.Signal.{Signal}
-use Rattle·model·specs.declared.signals.Signal.the-variants.{
+use Rattle.std.specs.Prelude.{ℕ, ℤ, negsuc}
+use Rattle.model.specs.declared.signals.Signal.{Signal}
+use Rattle.model.specs.declared.signals.Signal.TheVariants.{
   Sproc,
   Sstop,
   Spath,
@@ -22,9 +21,9 @@ use Rattle·model·specs.declared.signals.Signal.the-variants.{
   Svalue,
   Smask,
 }
-use Rattle·model·specs.declared.signals.Layer.{Layer}
-use Rattle·model·specs.declared.signals.Layer.the-variants.{Process, Path, Object, Shelf}
-use Rattle·model·specs.declared.signals.Fault.{Fault}
+use Rattle.model.specs.declared.signals.Layer.{Layer}
+use Rattle.model.specs.declared.signals.Layer.TheVariants.{Process, Path, Object, Shelf}
+use Rattle.model.specs.declared.signals.Fault.{Fault}
 
 -- negsuc n is -(n + 1)
 abbrev pub number : Signal → ℤ

@@ -1,6 +1,6 @@
 // What a refusal says: one fault type for every layer of the kernel.
-ghost use mathlib.Core.Path.{_≡_};
-ghost use Rattle·model·specs.Signals.{number, layer, fault};
+ghost use Rattle.std.specs.Prelude.{◌≡◌};
+ghost use Rattle.model.specs.Signals.{number, layer, fault};
 
 // A signal by its name; its number and its layer are below.
 #[derive(Clone, Copy)]
@@ -44,7 +44,7 @@ pub struct Fault {
 
 impl Signal {
     pub fn number(self) -> i32
-        ensures { λ r. ⌜ r ≡ number self ⌝ }
+        ensures { result ≡ number self }
     {
         match self {
             Signal::Sproc => -1,
@@ -69,7 +69,7 @@ impl Signal {
     }
 
     pub fn layer(self) -> Layer
-        ensures { λ r. ⌜ r ≡ layer self ⌝ }
+        ensures { result ≡ layer self }
     {
         match self {
             Signal::Sproc | Signal::Sstop | Signal::Sdepth | Signal::Svalue => Layer::Process,
@@ -93,7 +93,7 @@ impl Signal {
 
 impl Fault {
     pub fn new(signal: Signal, detail: u8) -> Fault
-        ensures { λ r. ⌜ r ≡ fault signal detail ⌝ }
+        ensures { result ≡ fault signal detail }
     {
         Fault {
             signal,

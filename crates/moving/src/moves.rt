@@ -1,31 +1,21 @@
 // The kalls that move a slot and leave its old place empty, or change two about.
-ghost use mathlib.Core.Path.{_≡_};
-ghost use mathlib.Core.List.{_∷_};
-ghost use Rattle·model.specs.Kalls.{leaving, kall-pass, kall-take, kall-delete, kall-interchange};
-ghost use Rattle·objects.specs.Abstract.{Does};
-use model::kinds::Change;
-use model::kinds::EMPTY;
-use model::kinds::Holder;
-use model::rights::DLTRTS;
-use model::rights::ENVRTS;
-use model::rights::KILLRTS;
-use model::rights::LOADRTS;
-use model::rights::MDFYRTS;
-use model::rights::STORTS;
+ghost use Rattle.std.specs.Prelude.{◌≡◌, ◌∷◌};
+ghost use Rattle.model.specs.Kalls.{leaving, kall_pass, kall_take, kall_delete, kall_interchange};
+ghost use Rattle.objects.specs.Abstract.{Does};
+
+use model::kinds::{Change, EMPTY, Holder};
+use model::rights::{DLTRTS, ENVRTS, KILLRTS, LOADRTS, MDFYRTS, STORTS};
 use model::signals::Fault;
 use paths::recode::changed;
-use paths::slots::enter;
-use paths::slots::held;
-use paths::walk::WRITING;
-use paths::walk::walk;
+use paths::slots::{enter, held};
+use paths::walk::{WRITING, walk};
 use rights::rule::RightsRule;
-use scene::opened::Scene;
-use scene::opened::Slip;
+use scene::opened::{Scene, Slip};
 use shelf::traits::ReadableShelf;
 
 // What a slot must grant to be moved away by the path.
 fn moving_away(path: &[u32]) -> &'static [u8]
-    ensures { λ r. ⌜ now r ≡ 0 ∷ leaving (now (path .entry)) ⌝ }
+    ensures { result.now ≡ 0 ∷ leaving path.now }
 {
     if path.len() == 1 {
         &[DLTRTS]
@@ -44,7 +34,7 @@ pub fn pass<R: RightsRule, S: ReadableShelf>(
     cur: u32,
     mask: Option<u32>,
 ) -> Result<i32, Fault>
-    ensures { λ r. ⌜ Does process (kall-pass (R·RightsRule .rule) process (now (path .entry)) cur mask) (now (scene .entry) .tables) (S·ReadableShelf .holds (now («_shelf» .entry))) (now (scene .exit) .tables) (S·ReadableShelf .holds (now («_shelf» .exit))) r ⌝ }
+    ensures { Does process (kall_pass R.RightsRule.rule process path.now cur mask) scene.old.tables (S.ReadableShelf.holds _shelf.old) scene.new.tables (S.ReadableShelf.holds _shelf.new) result }
 {
     enter(scene, process, mask, path.len())?;
     let slot = held(scene, moving_away(path), process, Holder::Mine, cur, 0)?;
@@ -69,7 +59,7 @@ pub fn take<R: RightsRule, S: ReadableShelf>(
     new: u32,
     path: &[u32],
 ) -> Result<i32, Fault>
-    ensures { λ r. ⌜ Does process (kall-take (R·RightsRule .rule) process new (now (path .entry))) (now (scene .entry) .tables) (S·ReadableShelf .holds (now («_shelf» .entry))) (now (scene .exit) .tables) (S·ReadableShelf .holds (now («_shelf» .exit))) r ⌝ }
+    ensures { Does process (kall_take R.RightsRule.rule process new path.now) scene.old.tables (S.ReadableShelf.holds _shelf.old) scene.new.tables (S.ReadableShelf.holds _shelf.new) result }
 {
     enter(scene, process, None, path.len())?;
     scene.tables.vacant(process, Holder::Mine, new, 0)?;
@@ -103,7 +93,7 @@ pub fn delete<R: RightsRule, S: ReadableShelf>(
     process: u32,
     path: &[u32],
 ) -> Result<i32, Fault>
-    ensures { λ r. ⌜ Does process (kall-delete (R·RightsRule .rule) process (now (path .entry))) (now (scene .entry) .tables) (S·ReadableShelf .holds (now («_shelf» .entry))) (now (scene .exit) .tables) (S·ReadableShelf .holds (now («_shelf» .exit))) r ⌝ }
+    ensures { Does process (kall_delete R.RightsRule.rule process path.now) scene.old.tables (S.ReadableShelf.holds _shelf.old) scene.new.tables (S.ReadableShelf.holds _shelf.new) result }
 {
     enter(scene, process, None, path.len())?;
     let target = walk(scene, &WRITING, &[MDFYRTS, KILLRTS], process, path)?;
@@ -131,7 +121,7 @@ pub fn interchange<R: RightsRule, S: ReadableShelf>(
     cur: u32,
     mask: Option<u32>,
 ) -> Result<i32, Fault>
-    ensures { λ r. ⌜ Does process (kall-interchange (R·RightsRule .rule) process (now (path .entry)) cur mask) (now (scene .entry) .tables) (S·ReadableShelf .holds (now («_shelf» .entry))) (now (scene .exit) .tables) (S·ReadableShelf .holds (now («_shelf» .exit))) r ⌝ }
+    ensures { Does process (kall_interchange R.RightsRule.rule process path.now cur mask) scene.old.tables (S.ReadableShelf.holds _shelf.old) scene.new.tables (S.ReadableShelf.holds _shelf.new) result }
 {
     enter(scene, process, mask, path.len())?;
     let slot = held(scene, &[DLTRTS], process, Holder::Mine, cur, 0)?;

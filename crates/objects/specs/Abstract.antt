@@ -1,132 +1,122 @@
-use mathlib.Core.Path.{_≡_}
-use mathlib.Core.Bool.{Bool, true, false, cond, _&&_}
-use mathlib.Core.List.{List, [], _∷_}
-use Prim.Native.Nat.{ℕ, zero, suc, _+_, _-_, _*_, _<_, _≤_}
-use lib.ListN.{length, getD, set, replicate}
-use lib.Dec.{leb, ltb, eqb}
-use lib.IntN.{ℤ}
-use Rattle·std.specs.declared.option.Option.{Option}
-use Rattle·std.specs.declared.option.Option.the-variants.{Some, None}
-use Rattle·objects·specs.declared.kinds.State.{State}
-use Rattle·objects·specs.declared.kinds.State.the-variants.{Absent, Running, Stopped}
-use Rattle·objects·specs.declared.kinds.Row.{Row}
-use Rattle·model.specs.declared.kinds.Space.{Space}
-use Rattle·objects·specs.declared.kinds.Process.{Process}
-use Rattle·objects·specs.declared.tables.Tables.{Tables}
-use Rattle·model.specs.declared.kinds.Slot.{Slot}
-use Rattle·model.specs.declared.kinds.Slot.the-variants.{Empty}
-use Rattle·model.specs.declared.kinds.Name.{Name}
-use Rattle·std.specs.declared.result.Result.{Result}
-use Rattle·std.specs.declared.result.Result.the-variants.{Ok, Err}
-use Rattle·model.specs.declared.signals.Fault.{Fault}
-use Rattle·model.specs.Model.{Frame, Body, Task, World}
-use Rattle·model.specs.Plan.{Plan, new-number, places}
-use Rattle·model.specs.Kalls.{Plain, ended, same-name, made, unmade}
-use Rattle·model.specs.SetUp.{living}
-use Rattle·objects·specs.declared.kinds.Spot.{Spot}
-use Rattle·objects·specs.Places.{place-of, row-at, base-of}
-use Rattle·objects·specs.Sound.{nobody, bare-space}
+use Rattle.std.specs.Prelude.{◌≡◌, ℕ, zero, suc, ◌+◌, ◌-◌, ◌*◌, ◌<◌, ◌≤◌, Bool, true, false, cond, ◌&&◌, List, [], ◌∷◌, length, replicate, ℤ, Some, None, Ok, Err, Option, Result, ◌==◌, ◌≢◌, nat_le, slice_index, slice_index_or, slice_set}
+use Rattle.objects.specs.declared.kinds.State.{State}
+use Rattle.objects.specs.declared.kinds.State.TheVariants.{Absent, Running, Stopped}
+use Rattle.objects.specs.declared.kinds.Row.{Row}
+use Rattle.model.specs.declared.kinds.Space.{Space}
+use Rattle.objects.specs.declared.kinds.Process.{Process}
+use Rattle.objects.specs.declared.tables.Tables.{Tables}
+use Rattle.model.specs.declared.kinds.Slot.{Slot}
+use Rattle.model.specs.declared.kinds.Slot.TheVariants.{Empty}
+use Rattle.model.specs.declared.kinds.Name.{Name}
+use Rattle.model.specs.declared.signals.Fault.{Fault}
+use Rattle.model.specs.Model.{Frame, Body, Task, World}
+use Rattle.model.specs.Plan.{Plan, new_number, places}
+use Rattle.model.specs.Kalls.{Plain, ended, same_name, made, unmade}
+use Rattle.model.specs.SetUp.{living}
+use Rattle.objects.specs.declared.kinds.Spot.{Spot}
+use Rattle.objects.specs.Places.{place_of, row_at, base_of}
+use Rattle.objects.specs.Sound.{nobody, bare_space}
 
 -- k slots from i on
 unfoldable pub lot : List Slot → ℕ → ℕ → List Slot
 lot xs i zero = []
-lot xs i (suc k) = getD xs i Empty ∷ lot xs (suc i) k
+lot xs i (suc k) = slice_index_or xs i Empty ∷ lot xs (suc i) k
 
 -- and k slots from i on made empty
 unfoldable pub wiped : List Slot → ℕ → ℕ → List Slot
 wiped xs i zero = xs
-wiped xs i (suc k) = wiped (set xs i Empty) (suc i) k
+wiped xs i (suc k) = wiped (slice_set xs i Empty) (suc i) k
 
-abbrev pub body-at : List Row → List Slot → ℕ → Body
-body-at rows slots p = record { kind = row-at rows p .kind; list = lot slots (8 * p) 8 }
+abbrev pub body_at : List Row → List Slot → ℕ → Body
+body_at rows slots p = record { kind = (row_at rows p).kind; list = lot slots (8 * p) 8 }
 
-abbrev pub body-from : List Row → List Slot → Option ℕ → Option Body
-body-from rows slots None = None
-body-from rows slots (Some p) = Some (body-at rows slots p)
+abbrev pub body_from : List Row → List Slot → Option ℕ → Option Body
+body_from rows slots None = None
+body_from rows slots (Some p) = Some (body_at rows slots p)
 
-unfoldable pub object-of : List Row → List Slot → Name → Option Body
-object-of rows slots n = body-from rows slots (place-of rows (n .share) (n .number))
+unfoldable pub object_of : List Row → List Slot → Name → Option Body
+object_of rows slots n = body_from rows slots (place_of rows n.share n.number)
 
 -- how many of k places from i are in use
 unfoldable pub count : List Row → ℕ → ℕ → ℕ
 count rows zero i = 0
-count rows (suc k) i = cond (eqb (row-at rows i .number) 0) (count rows k (suc i)) (suc (count rows k (suc i)))
+count rows (suc k) i = cond ((row_at rows i).number == 0) (count rows k (suc i)) (suc (count rows k (suc i)))
 
-unfoldable pub living-of : List Row → ℕ → ℕ
-living-of rows s = count rows (places s) (base-of s)
+unfoldable pub living_of : List Row → ℕ → ℕ
+living_of rows s = count rows (places s) (base_of s)
 
 -- the newest of the d oldest spaces first
 abbrev pub newest : List Space → ℕ → List Space
 newest xs zero = []
-newest xs (suc d) = getD xs d bare-space ∷ newest xs d
+newest xs (suc d) = slice_index_or xs d bare_space ∷ newest xs d
 
-abbrev pub task-in : State → Process → Option Task
-task-in Absent p = None
-task-in Running p = Some (record { running = true; spaces = newest (p .spaces) (p .depth) })
-task-in Stopped p = Some (record { running = false; spaces = newest (p .spaces) (p .depth) })
+abbrev pub task_in : State → Process → Option Task
+task_in Absent p = None
+task_in Running p = Some (record { running = true; spaces = newest p.spaces p.depth })
+task_in Stopped p = Some (record { running = false; spaces = newest p.spaces p.depth })
 
-abbrev pub task-of : Process → Option Task
-task-of p = task-in (p .state) p
+abbrev pub task_of : Process → Option Task
+task_of p = task_in p.state p
 
 -- processes go by 1 to 8
-unfoldable pub process-of : List Process → ℕ → Option Task
-process-of ps p = cond (leb 1 p && leb p 8) (task-of (getD ps (p - 1) nobody)) None
+unfoldable pub process_of : List Process → ℕ → Option Task
+process_of ps p = cond (nat_le 1 p && nat_le p 8) (task_of (slice_index_or ps (p - 1) nobody)) None
 
-abbrev pub depth-in : State → Process → ℕ
-depth-in Absent p = 0
-depth-in Running p = p .depth
-depth-in Stopped p = p .depth
+abbrev pub depth_in : State → Process → ℕ
+depth_in Absent p = 0
+depth_in Running p = p.depth
+depth_in Stopped p = p.depth
 
-abbrev pub task-depth : Process → ℕ
-task-depth p = depth-in (p .state) p
+abbrev pub task_depth : Process → ℕ
+task_depth p = depth_in p.state p
 
-abbrev pub depth-of : List Process → ℕ → ℕ
-depth-of ps p = cond (leb 1 p && leb p 8) (task-depth (getD ps (p - 1) nobody)) 0
+abbrev pub depth_of : List Process → ℕ → ℕ
+depth_of ps p = cond (nat_le 1 p && nat_le p 8) (task_depth (slice_index_or ps (p - 1) nobody)) 0
 
-abbrev pub frame-of : List Row → List Slot → List ℕ → List Process → Frame
-frame-of rows slots given ps = record { object = object-of rows slots; living = living-of rows; given = λ s. getD given s 0; process = process-of ps }
+abbrev pub frame_of : List Row → List Slot → List ℕ → List Process → Frame
+frame_of rows slots given ps = record { object = object_of rows slots; living = living_of rows; given = λ s. slice_index given s; process = process_of ps }
 
 abbrev pub frame : Tables → Frame
-frame t = frame-of (t .objects) (t .slots) (t .given) (t .processes)
+frame t = frame_of t.objects t.slots t.given t.processes
 
 -- where on the shelf the elements of each name lie: no part of the scene, only what they are read by
-abbrev pub on-shelf : Option ℕ → Option ℕ
-on-shelf None = None
-on-shelf (Some p) = Some (p + 1)
+abbrev pub on_shelf : Option ℕ → Option ℕ
+on_shelf None = None
+on_shelf (Some p) = Some (p + 1)
 
-abbrev pub On-a-shelf : Option ℕ → Type 0
-On-a-shelf None = Unit {0}
-On-a-shelf (Some p) = (1 ≤ p) × (p ≤ 160)
+abbrev pub OnAShelf : Option ℕ → Type 0
+OnAShelf None = Unit {0}
+OnAShelf (Some p) = (1 ≤ p) × (p ≤ 160)
 
-unfoldable pub home-of : List Row → Name → Option ℕ
-home-of rows n = on-shelf (place-of rows (n .share) (n .number))
+unfoldable pub home_of : List Row → Name → Option ℕ
+home_of rows n = on_shelf (place_of rows n.share n.number)
 
 abbrev pub homes : Tables → Name → Option ℕ
-homes t = home-of (t .objects)
+homes t = home_of t.objects
 
-abbrev pub elements-at : {E : Type 0} → (ℕ → List E) → Option ℕ → List E
-elements-at h None = []
-elements-at h (Some p) = h p
+abbrev pub elements_at : {E : Type 0} → (ℕ → List E) → Option ℕ → List E
+elements_at h None = []
+elements_at h (Some p) = h p
 
 -- the scene of the tables and of a shelf that holds `h`
 abbrev pub world : {E : Type 0} → Tables → (ℕ → List E) → World E
-world t h = record { frame = frame t; elements = λ n. elements-at h (homes t n) }
+world t h = record { frame = frame t; elements = λ n. elements_at h (homes t n) }
 
 -- a new name's elements lie at a place
 unfoldable pub homed : Name → ℕ → (Name → Option ℕ) → Name → Option ℕ
-homed n p h = λ m. cond (same-name m n) (Some p) (h m)
+homed n p h = λ m. cond (same_name m n) (Some p) (h m)
 
 -- what making an object answers and does
 abbrev pub Makes : ℕ → ℕ → Tables → Tables → Result Spot Fault → Type 0
 Makes s kind t t' (Ok m) =
-    (Ok (m .number) ≡ new-number s (frame t)) × (frame t' ≡ made s kind (frame t)) ×
-    (homes t' ≡ homed (record { share = s; number = m .number }) (m .place) (homes t)) × ((n : Name) → Some (m .place) ≡ homes t n → ⊥) ×
-    (1 ≤ m .place) × (m .place ≤ 160)
-Makes s kind t t' (Err e) = (Err e ≡ new-number s (frame t)) × (frame t' ≡ frame t) × (homes t' ≡ homes t)
+    (Ok m.number ≡ new_number s (frame t)) × (frame t' ≡ made s kind (frame t)) ×
+    (homes t' ≡ homed (record { share = s; number = m.number }) m.place (homes t)) × ((n : Name) → Some m.place ≢ homes t n) ×
+    (1 ≤ m.place) × (m.place ≤ 160)
+Makes s kind t t' (Err e) = (Err e ≡ new_number s (frame t)) × (frame t' ≡ frame t) × (homes t' ≡ homes t)
 
 -- a name's elements lie nowhere any more
 unfoldable pub unhomed : Name → (Name → Option ℕ) → Name → Option ℕ
-unhomed n h = λ m. cond (same-name m n) None (h m)
+unhomed n h = λ m. cond (same_name m n) None (h m)
 
 -- what ending an object answers and does
 abbrev pub Ends : Name → Tables → Tables → Result ℕ Fault → Type 0
@@ -134,9 +124,9 @@ Ends n t t' (Ok x) = (Ok x ≡ living n (frame t)) × (frame t' ≡ unmade n (fr
 Ends n t t' (Err e) = (Err e ≡ living n (frame t)) × (frame t' ≡ frame t) × (homes t' ≡ homes t)
 
 -- what a kall of the process p answers and makes of the scene, by its plan
-abbrev pub Does-all : {E : Type 0} → ℕ → Plan (World E) (Plain E) → Tables → (ℕ → List E) → Tables → (ℕ → List E) → Result ℤ Fault → Type 0
-Does-all p m t h t' h' r = record { answer = r; after = world t' h' } ≡ ended p (world t h) (m (world t h))
+abbrev pub DoesAll : {E : Type 0} → ℕ → Plan (World E) (Plain E) → Tables → (ℕ → List E) → Tables → (ℕ → List E) → Result ℤ Fault → Type 0
+DoesAll p m t h t' h' r = record { answer = r; after = world t' h' } ≡ ended p (world t h) (m (world t h))
 
 -- the same of a kall that reads no elements
 abbrev pub Does : {E : Type 0} → ℕ → Plan Frame (Plain E) → Tables → (ℕ → List E) → Tables → (ℕ → List E) → Result ℤ Fault → Type 0
-Does p m = Does-all p (λ w. m (w .frame))
+Does p m = DoesAll p (λ w. m w.frame)

@@ -1,16 +1,16 @@
-ghost use mathlib.Core.Path.{_≡_};
-ghost use Rattle·shelf.specs.Places.{Writes};
-ghost use Rattle·model.specs.SetUp.{Creates};
-ghost use Rattle·objects·specs.Abstract.{world};
-ghost use Rattle·objects·specs.Fill.{filled};
+ghost use Rattle.std.specs.Prelude.{◌≡◌};
+ghost use Rattle.shelf.specs.Places.{Writes};
+ghost use Rattle.model.specs.SetUp.{Creates};
+ghost use Rattle.objects.specs.Abstract.{world};
+ghost use Rattle.objects.specs.Fill.{filled};
+
 use crate::tables::Tables;
-use model::signals::Fault;
-use model::signals::Signal;
+use model::signals::{Fault, Signal};
 use shelf::traits::WritableShelf;
 
 // The place holds the elements, and nothing that it held before.
 fn fill<S: WritableShelf>(shelf: &mut S, place: usize, elements: &[S::Element]) -> Result<(), Fault>
-    ensures { λ r. ⌜ Writes r (S·ReadableShelf .holds (now (shelf .entry))) (S·ReadableShelf .holds (now (shelf .exit))) (filled place (now (elements .entry)) (S·ReadableShelf .holds (now (shelf .entry)))) ⌝ }
+    ensures { Writes result (S.ReadableShelf.holds shelf.old) (S.ReadableShelf.holds shelf.new) (filled place elements.now (S.ReadableShelf.holds shelf.old)) }
 {
     if elements.len() > 64 {
         return Err(Fault::new(Signal::Slim, 0));
@@ -30,7 +30,7 @@ pub fn create<S: WritableShelf>(
     kind: u32,
     elements: &[S::Element],
 ) -> Result<u32, Fault>
-    ensures { λ r. ⌜ Creates share kind (now (elements .entry)) (world (now (tables .entry)) (S·ReadableShelf .holds (now (shelf .entry)))) (world (now (tables .exit)) (S·ReadableShelf .holds (now (shelf .exit)))) r ⌝ }
+    ensures { Creates share kind elements.now (world tables.old (S.ReadableShelf.holds shelf.old)) (world tables.new (S.ReadableShelf.holds shelf.new)) result }
 {
     if elements.len() > 64 {
         return Err(Fault::new(Signal::Slim, 0));

@@ -1,10 +1,9 @@
 // What an object's type allows it.
-ghost use mathlib.Core.Path.{_≡_};
-ghost use Prim.Native.Nat.{_≤_};
-ghost use Rattle·model.specs.Plan.{limits, room};
+ghost use Rattle.std.specs.Prelude.{◌≡◌, ◌≤◌};
+ghost use Rattle.model.specs.Plan.{limits, room};
+
 use model::kinds::Limits;
-use model::signals::Fault;
-use model::signals::Signal;
+use model::signals::{Fault, Signal};
 
 pub const DATA: u32 = 1;
 
@@ -13,7 +12,7 @@ pub const UNIVERSAL: u32 = 2;
 pub const PROCEDURE: u32 = 3;
 
 pub fn limits(kind: u32) -> Result<Limits, Fault>
-    ensures { λ r. ⌜ r ≡ limits kind ⌝ }
+    ensures { result ≡ limits kind }
 {
     match kind {
         k if k == DATA => Ok(Limits {
@@ -34,8 +33,8 @@ pub fn limits(kind: u32) -> Result<Limits, Fault>
 
 // The slots of an object's list.
 pub(crate) fn room(kind: u32) -> usize
-    ensures value { λ r. ⌜ r ≡ room kind ⌝ }
-    ensures bound { λ r. ⌜ r ≤ 8 ⌝ }
+    ensures value { result ≡ room kind }
+    ensures bound { result ≤ 8 }
 {
     match limits(kind) {
         Ok(limits) => limits.slots,

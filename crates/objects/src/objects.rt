@@ -1,33 +1,20 @@
 // The object layer: what is read from the tables and written to them, by name.
-ghost use mathlib.Core.Path.{_≡_};
-ghost use Prim.Native.Nat.{_-_, _*_, _<_, _≤_};
-ghost use lib.ListN.{length, replicate};
-ghost use Rattle·model.specs.declared.kinds.Slot.the-variants.{Empty};
-ghost use Rattle·std.specs.declared.result.Result.the-variants.{Ok};
-ghost use Rattle·std.specs.Vec.{made as Made};
-ghost use Rattle·model.specs.Plan.{slot-of, own-slot, slot-at, runs, vacant, lives, last-filled, length-of, list-length, next-slot, places};
-ghost use Rattle·model.specs.Kalls.{put-own, put-listed, put-in};
-ghost use Rattle·model.specs.SetUp.{bare, unenrolled, enrol, enrolled, owned, living, Sets};
-ghost use Rattle·objects·specs.Places.{base-of, seek, place-of, Within};
-ghost use Rattle·objects·specs.Abstract.{frame, homes, On-a-shelf, process-of, living-of, depth-of, wiped, Makes, Ends};
-use crate::kinds::Row;
-use crate::kinds::Spot;
-use crate::kinds::State;
+ghost use Rattle.std.specs.Prelude.{◌≡◌, ◌-◌, ◌*◌, ◌<◌, ◌≤◌, length, replicate, IfOk, Ok};
+ghost use Rattle.model.specs.declared.kinds.Slot.TheVariants.{Empty};
+ghost use Rattle.model.specs.Plan.{slot_of, own_slot, slot_at, runs, vacant, lives, last_filled, length_of, list_length, next_slot, places};
+ghost use Rattle.model.specs.Kalls.{put_own, put_listed, put_in};
+ghost use Rattle.model.specs.SetUp.{bare, unenrolled, enrol, enrolled, owned, living, Sets};
+ghost use Rattle.objects.specs.Places.{base_of, seek, place_of, Within};
+ghost use Rattle.objects.specs.Abstract.{frame, homes, OnAShelf, process_of, living_of, depth_of, wiped, Makes, Ends};
+
+use crate::kinds::{Row, Spot, State};
 use crate::limits::room;
-use crate::tables::FREE;
-use crate::tables::NEWCOMER;
-use crate::tables::NOBODY;
-use crate::tables::Tables;
-use model::kinds::EMPTY;
-use model::kinds::Holder;
-use model::kinds::Name;
-use model::kinds::Owner;
-use model::kinds::Slot;
-use model::signals::Fault;
-use model::signals::Signal;
+use crate::tables::{FREE, NEWCOMER, NOBODY, Tables};
+use model::kinds::{EMPTY, Holder, Name, Owner, Slot};
+use model::signals::{Fault, Signal};
 
 fn base(share: u32) -> usize
-    ensures { λ r. ⌜ r ≡ base-of share ⌝ }
+    ensures { result ≡ base_of share }
 {
     if share == 0 {
         0
@@ -37,7 +24,7 @@ fn base(share: u32) -> usize
 }
 
 fn size(share: u32) -> usize
-    ensures { λ r. ⌜ r ≡ places share ⌝ }
+    ensures { result ≡ places share }
 {
     if share == 0 {
         32
@@ -49,8 +36,8 @@ fn size(share: u32) -> usize
 }
 
 fn wipe(slots: &mut [Slot; 1280], place: usize)
-    requires { ⌜ place < 160 ⌝ }
-    ensures { λ _. ⌜ now (slots .exit) ≡ wiped (now (slots .entry)) (8 * place) 8 ⌝ }
+    requires { place < 160 }
+    ensures { slots.new ≡ wiped slots.old (8 * place) 8 }
 {
     for i in 0..8usize {
         slots[8 * place + i] = EMPTY;
@@ -59,8 +46,8 @@ fn wipe(slots: &mut [Slot; 1280], place: usize)
 
 // The index of the last filled slot, or 0.
 fn last_filled(slots: &[Slot]) -> usize
-    ensures value { λ r. ⌜ r ≡ last-filled (now (slots .entry)) ⌝ }
-    ensures bound { λ r. ⌜ r ≤ length (now (slots .entry)) ⌝ }
+    ensures value { result ≡ last_filled slots.now }
+    ensures bound { result ≤ length slots.now }
 {
     let mut last = 0;
     for (i, slot) in slots.iter().enumerate() {
@@ -74,16 +61,16 @@ fn last_filled(slots: &[Slot]) -> usize
 
 // The same of a name space, which has twelve.
 fn space_length(slots: &[Slot; 12]) -> usize
-    ensures value { λ r. ⌜ r ≡ last-filled (now (slots .entry)) ⌝ }
-    ensures bound { λ r. ⌜ r ≤ 12 ⌝ }
+    ensures value { result ≡ last_filled slots.now }
+    ensures bound { result ≤ 12 }
 {
     last_filled(slots)
 }
 
 impl Tables {
     pub fn new() -> Tables
-        ensures scene { λ r. ⌜ frame r ≡ bare ⌝ }
-        ensures slots { λ r. ⌜ r .slots ≡ replicate 1280 Empty ⌝ }
+        ensures scene { frame result ≡ bare }
+        ensures slots { result.slots ≡ replicate 1280 Empty }
     {
         Tables {
             objects: [FREE; 160],
@@ -95,8 +82,8 @@ impl Tables {
 
     // The first place of a share whose row has the number.
     fn scan(&self, share: u32, number: u32) -> Option<usize>
-        ensures value { λ r. ⌜ r ≡ seek (now (self .entry) .objects) number (places share) (base-of share) ⌝ }
-        ensures within { λ r. ⌜ Within r ⌝ }
+        ensures value { result ≡ seek self.now.objects number (places share) (base_of share) }
+        ensures within { Within result }
     {
         let low = base(share);
         let high = low + size(share);
@@ -109,8 +96,8 @@ impl Tables {
     }
 
     fn find(&self, name: Name) -> Option<usize>
-        ensures value { λ r. ⌜ r ≡ place-of (now (self .entry) .objects) (name .share) (name .number) ⌝ }
-        ensures within { λ r. ⌜ Within r ⌝ }
+        ensures value { result ≡ place_of self.now.objects name.share name.number }
+        ensures within { Within result }
     {
         if name.number == 0 {
             return None;
@@ -120,7 +107,7 @@ impl Tables {
 
     // A slot of an object's list, by an index from 0; `at` is the detail of a refusal.
     pub fn slot(&self, name: Name, index: usize, at: u8) -> Result<Slot, Fault>
-        ensures { λ r. ⌜ r ≡ slot-of (frame (now (self .entry))) name index at ⌝ }
+        ensures { result ≡ slot_of (frame self.now) name index at }
     {
         let Some(place) = self.find(name) else {
             return Err(Fault::new(Signal::Sgone, at));
@@ -132,8 +119,8 @@ impl Tables {
     }
 
     pub fn put(&mut self, name: Name, index: usize, slot: Slot)
-        ensures after { λ _. ⌜ frame (now (self .exit)) ≡ put-listed name index slot (frame (now (self .entry))) ⌝ }
-        ensures homes { λ _. ⌜ homes (now (self .exit)) ≡ homes (now (self .entry)) ⌝ }
+        ensures after { frame self.new ≡ put_listed name index slot (frame self.old) }
+        ensures homes { homes self.new ≡ homes self.old }
     {
         if let Some(place) = self.find(name) {
             if index < 8 {
@@ -144,7 +131,7 @@ impl Tables {
 
     // An object with an empty list at an unused place of the share.
     pub fn make(&mut self, share: u32, kind: u32) -> Result<Spot, Fault>
-        ensures { λ r. ⌜ Makes share kind (now (self .entry)) (now (self .exit)) r ⌝ }
+        ensures { Makes share kind self.old self.new result }
     {
         let Some(place) = self.scan(share, 0) else {
             return Err(Fault::new(Signal::Sroom, 0));
@@ -166,7 +153,7 @@ impl Tables {
     }
 
     pub fn running(&self, process: u32) -> Result<u32, Fault>
-        ensures { λ r. ⌜ r ≡ runs process (frame (now (self .entry))) ⌝ }
+        ensures { result ≡ runs process (frame self.now) }
     {
         if process == 0 || process > 8 {
             return Err(Fault::new(Signal::Sproc, 0));
@@ -180,9 +167,9 @@ impl Tables {
 
     // How many name spaces a process has: none if it is not enrolled.
     fn depth(&self, process: u32) -> usize
-        ensures value { λ r. ⌜ r ≡ depth-of (now (self .entry) .processes) process ⌝ }
-        ensures bound { λ r. ⌜ r ≤ 6 ⌝ }
-        ensures within { λ r. ⌜ (0 < r → (1 ≤ process) × (process ≤ 8)) ⌝ }
+        ensures value { result ≡ depth_of self.now.processes process }
+        ensures bound { result ≤ 6 }
+        ensures within { 0 < result → (1 ≤ process) × (process ≤ 8) }
     {
         if process == 0 || process > 8 {
             return 0;
@@ -195,35 +182,29 @@ impl Tables {
 
     // A slot of the current name space, by an index from 0.
     pub fn own(&self, process: u32, index: usize, at: u8) -> Result<Slot, Fault>
-        ensures { λ r. ⌜ r ≡ own-slot (frame (now (self .entry))) process index at ⌝ }
+        ensures { result ≡ own_slot (frame self.now) process index at }
     {
         let depth = self.depth(process);
         if depth == 0 || index >= 12 {
             return Err(Fault::new(Signal::Sindex, at));
         }
-        Ok(
-            self.processes[process as usize - 1]
-                .spaces[depth - 1]
-                .slots[index],
-        )
+        Ok(self.processes[process as usize - 1].spaces[depth - 1].slots[index])
     }
 
     pub fn put_own(&mut self, process: u32, index: usize, slot: Slot)
-        ensures after { λ _. ⌜ frame (now (self .exit)) ≡ put-own process index slot (frame (now (self .entry))) ⌝ }
-        ensures homes { λ _. ⌜ homes (now (self .exit)) ≡ homes (now (self .entry)) ⌝ }
+        ensures after { frame self.new ≡ put_own process index slot (frame self.old) }
+        ensures homes { homes self.new ≡ homes self.old }
     {
         let depth = self.depth(process);
         if depth > 0 && index < 12 {
-            self.processes[process as usize - 1]
-                .spaces[depth - 1]
-                .slots[index] = slot;
+            self.processes[process as usize - 1].spaces[depth - 1].slots[index] = slot;
         }
     }
 
     // The length of the current name space.
     pub fn length(&self, process: u32) -> usize
-        ensures value { λ r. ⌜ Ok r ≡ length-of process (frame (now (self .entry))) ⌝ }
-        ensures bound { λ r. ⌜ r ≤ 12 ⌝ }
+        ensures value { Ok result ≡ length_of process (frame self.now) }
+        ensures bound { result ≤ 12 }
     {
         let depth = self.depth(process);
         if depth == 0 {
@@ -234,8 +215,8 @@ impl Tables {
 
     // The length of an object's list.
     pub fn list_length(&self, name: Name) -> usize
-        ensures value { λ r. ⌜ Ok r ≡ list-length name (frame (now (self .entry))) ⌝ }
-        ensures bound { λ r. ⌜ r ≤ 8 ⌝ }
+        ensures value { Ok result ≡ list_length name (frame self.now) }
+        ensures bound { result ≤ 8 }
     {
         let Some(place) = self.find(name) else {
             return 0;
@@ -245,7 +226,7 @@ impl Tables {
 
     // The object and its list end, and its place serves again.
     pub fn end(&mut self, name: Name) -> Result<u32, Fault>
-        ensures { λ r. ⌜ Ends name (now (self .entry)) (now (self .exit)) r ⌝ }
+        ensures { Ends name self.old self.new result }
     {
         let Some(place) = self.find(name) else {
             return Err(Fault::new(Signal::Sgone, 0));
@@ -256,7 +237,7 @@ impl Tables {
 
     // The slot after a list's length, by its index from 1.
     pub fn next_slot(&self, name: Name) -> Result<u32, Fault>
-        ensures { λ r. ⌜ r ≡ next-slot name (frame (now (self .entry))) ⌝ }
+        ensures { result ≡ next_slot name (frame self.now) }
     {
         let Some(place) = self.find(name) else {
             return Err(Fault::new(Signal::Slim, 0));
@@ -270,8 +251,8 @@ impl Tables {
 
     // Where on the shelf an object's elements lie.
     pub fn home(&self, name: Name) -> Option<usize>
-        ensures value { λ r. ⌜ r ≡ homes (now (self .entry)) name ⌝ }
-        ensures within { λ r. ⌜ On-a-shelf r ⌝ }
+        ensures value { result ≡ homes self.now name }
+        ensures within { OnAShelf result }
     {
         match self.find(name) {
             Some(place) => Some(place + 1),
@@ -280,7 +261,7 @@ impl Tables {
     }
 
     pub fn is_living(&self, name: Name) -> bool
-        ensures { λ r. ⌜ r ≡ lives (frame (now (self .entry))) name ⌝ }
+        ensures { result ≡ lives (frame self.now) name }
     {
         match self.find(name) {
             Some(_) => true,
@@ -290,7 +271,7 @@ impl Tables {
 
     // A slot by an index from 1.
     pub fn reach(&self, process: u32, holder: Holder, index: u32, at: u8) -> Result<Slot, Fault>
-        ensures { λ r. ⌜ r ≡ slot-at (frame (now (self .entry))) process holder index at ⌝ }
+        ensures { result ≡ slot_at (frame self.now) process holder index at }
     {
         if index == 0 {
             return Err(Fault::new(Signal::Sindex, at));
@@ -303,7 +284,7 @@ impl Tables {
 
     // An empty slot, by an index from 1.
     pub fn vacant(&self, process: u32, holder: Holder, index: u32, at: u8) -> Result<u32, Fault>
-        ensures { λ r. ⌜ r ≡ vacant process holder index at (frame (now (self .entry))) ⌝ }
+        ensures { result ≡ vacant process holder index at (frame self.now) }
     {
         match self.reach(process, holder, index, at)? {
             Slot::Empty => Ok(0),
@@ -313,8 +294,8 @@ impl Tables {
 
     // A slot is put, by an index from 1; there is none at index 0 and past the end.
     pub fn put_in(&mut self, process: u32, holder: Holder, index: u32, slot: Slot)
-        ensures after { λ _. ⌜ frame (now (self .exit)) ≡ put-in process holder (index - 1) slot (frame (now (self .entry))) ⌝ }
-        ensures homes { λ _. ⌜ homes (now (self .exit)) ≡ homes (now (self .entry)) ⌝ }
+        ensures after { frame self.new ≡ put_in process holder (index - 1) slot (frame self.old) }
+        ensures homes { homes self.new ≡ homes self.old }
     {
         let i = if index == 0 { 0 } else { index as usize - 1 };
         match holder {
@@ -324,8 +305,8 @@ impl Tables {
     }
 
     fn unenrolled(&self) -> Result<u32, Fault>
-        ensures value { λ r. ⌜ r ≡ unenrolled (process-of (now (self .entry) .processes)) 8 1 ⌝ }
-        ensures within { λ r. ⌜ Made r (λ p. (1 ≤ p) × (p ≤ 8)) ⌝ }
+        ensures value { result ≡ unenrolled (process_of self.now.processes) 8 1 }
+        ensures within { IfOk result (λ p. (1 ≤ p) × (p ≤ 8)) }
     {
         for process in 1..9u32 {
             if let Err(_) = self.enrolled(process) {
@@ -336,7 +317,7 @@ impl Tables {
     }
 
     pub fn enrol(&mut self) -> Result<u32, Fault>
-        ensures { λ r. ⌜ Sets r (frame (now (self .entry))) (homes (now (self .entry))) (frame (now (self .exit))) (homes (now (self .exit))) (enrol (frame (now (self .entry)))) ⌝ }
+        ensures { Sets result (frame self.old) (homes self.old) (frame self.new) (homes self.new) (enrol (frame self.old)) }
     {
         let process = self.unenrolled()?;
         self.processes[process as usize - 1] = NEWCOMER;
@@ -344,7 +325,7 @@ impl Tables {
     }
 
     fn enrolled(&self, process: u32) -> Result<u32, Fault>
-        ensures { λ r. ⌜ r ≡ enrolled (process-of (now (self .entry) .processes) process) ⌝ }
+        ensures { result ≡ enrolled (process_of self.now.processes process) }
     {
         if process == 0 || process > 8 {
             return Err(Fault::new(Signal::Sproc, 0));
@@ -356,7 +337,7 @@ impl Tables {
     }
 
     pub fn alive(&self, name: Name) -> Result<u32, Fault>
-        ensures { λ r. ⌜ r ≡ living name (frame (now (self .entry))) ⌝ }
+        ensures { result ≡ living name (frame self.now) }
     {
         if self.is_living(name) {
             Ok(0)
@@ -366,7 +347,7 @@ impl Tables {
     }
 
     pub fn owned(&self, owner: Owner) -> Result<u32, Fault>
-        ensures { λ r. ⌜ r ≡ owned owner (frame (now (self .entry))) ⌝ }
+        ensures { result ≡ owned owner (frame self.now) }
     {
         match owner {
             Owner::Process(process) => self.enrolled(process),
@@ -376,7 +357,7 @@ impl Tables {
 
     // How many objects of a share live.
     pub fn living(&self, share: u32) -> u32
-        ensures { λ r. ⌜ r ≡ frame (now (self .entry)) .living share ⌝ }
+        ensures { result ≡ (frame self.now).living share }
     {
         let low = base(share);
         let high = low + size(share);

@@ -1,10 +1,7 @@
-ghost use Rattle·objects·specs.Sound.{Bounded, Distinct, Deep, Shelved};
-use crate::kinds::Process;
-use crate::kinds::Row;
-use crate::kinds::State;
-use model::kinds::EMPTY;
-use model::kinds::Slot;
-use model::kinds::Space;
+ghost use Rattle.objects.specs.Sound.{Bounded, Distinct, Deep, Shelved};
+
+use crate::kinds::{Process, Row, State};
+use model::kinds::{EMPTY, Slot, Space};
 
 pub(crate) const FREE: Row = Row { number: 0, kind: 0 };
 

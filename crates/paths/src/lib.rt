@@ -1,3 +1,5 @@
+#![tactic(auto)]
+
 pub mod grants;
 pub mod recode;
 pub mod slots;

@@ -1,14 +1,12 @@
 // A slot's rights code on the slot's way.
-ghost use mathlib.Core.Path.{_≡_};
-ghost use Rattle·model.specs.Kalls.{masked, confined, recode, changed};
-use model::kinds::Cap;
-use model::kinds::Change;
-use model::kinds::Form;
-use model::kinds::Slot;
+ghost use Rattle.std.specs.Prelude.{◌≡◌};
+ghost use Rattle.model.specs.Kalls.{masked, confined, recode, changed};
+
+use model::kinds::{Cap, Change, Form, Slot};
 use rights::rule::RightsRule;
 
 fn masked<R: RightsRule>(rule: &R, mask: Option<u32>, code: u32) -> u32
-    ensures { λ r. ⌜ r ≡ masked (R·RightsRule .rule) mask code ⌝ }
+    ensures { result ≡ masked R.RightsRule.rule mask code }
 {
     match mask {
         None => code,
@@ -17,13 +15,13 @@ fn masked<R: RightsRule>(rule: &R, mask: Option<u32>, code: u32) -> u32
 }
 
 fn confined<R: RightsRule>(rule: &R, clear: bool, code: u32) -> u32
-    ensures { λ r. ⌜ r ≡ confined (R·RightsRule .rule) clear code ⌝ }
+    ensures { result ≡ confined R.RightsRule.rule clear code }
 {
     if clear { code } else { rule.stripped(code) }
 }
 
 fn recode<R: RightsRule>(rule: &R, change: Change, code: u32) -> u32
-    ensures { λ r. ⌜ r ≡ recode (R·RightsRule .rule) change code ⌝ }
+    ensures { result ≡ recode R.RightsRule.rule change code }
 {
     match change {
         Change::Taken { clear } => confined(rule, clear, code),
@@ -34,7 +32,7 @@ fn recode<R: RightsRule>(rule: &R, change: Change, code: u32) -> u32
 }
 
 pub fn changed<R: RightsRule>(rule: &R, change: Change, slot: Slot) -> Slot
-    ensures { λ r. ⌜ r ≡ changed (R·RightsRule .rule) change slot ⌝ }
+    ensures { result ≡ changed R.RightsRule.rule change slot }
 {
     match slot {
         Slot::Empty => Slot::Empty,

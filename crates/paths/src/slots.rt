@@ -1,18 +1,16 @@
 // What a slot must be, by what a kall does with it.
-ghost use mathlib.Core.Path.{_≡_};
-ghost use Rattle·model.specs.Plan.{mask-ok, path-ok, enter, held, object-at};
-ghost use Rattle·objects.specs.Abstract.{frame};
+ghost use Rattle.std.specs.Prelude.{◌≡◌};
+ghost use Rattle.model.specs.Plan.{mask_ok, path_ok, enter, held, object_at};
+ghost use Rattle.objects.specs.Abstract.{frame};
+
 use crate::grants::grants_all;
-use model::kinds::Cap;
-use model::kinds::Holder;
-use model::kinds::Slot;
-use model::signals::Fault;
-use model::signals::Signal;
+use model::kinds::{Cap, Holder, Slot};
+use model::signals::{Fault, Signal};
 use rights::rule::RightsRule;
 use scene::opened::Scene;
 
 fn mask_ok<R: RightsRule>(rule: &R, mask: Option<u32>) -> Result<u32, Fault>
-    ensures { λ r. ⌜ r ≡ mask-ok (R·RightsRule .rule) mask ⌝ }
+    ensures { result ≡ mask_ok R.RightsRule.rule mask }
 {
     match mask {
         Some(code) if !rule.is_valid(code) => Err(Fault::new(Signal::Smask, 0)),
@@ -21,7 +19,7 @@ fn mask_ok<R: RightsRule>(rule: &R, mask: Option<u32>) -> Result<u32, Fault>
 }
 
 pub(crate) fn path_ok(length: usize) -> Result<u32, Fault>
-    ensures { λ r. ⌜ r ≡ path-ok length ⌝ }
+    ensures { result ≡ path_ok length }
 {
     if length == 0 || length > 6 {
         return Err(Fault::new(Signal::Spath, 0));
@@ -36,7 +34,7 @@ pub fn enter<R: RightsRule>(
     mask: Option<u32>,
     length: usize,
 ) -> Result<u32, Fault>
-    ensures { λ r. ⌜ r ≡ enter (R·RightsRule .rule) process mask length (frame (now (scene .entry) .tables)) ⌝ }
+    ensures { result ≡ enter R.RightsRule.rule process mask length (frame scene.now.tables) }
 {
     scene.tables.running(process)?;
     mask_ok(&scene.rule, mask)?;
@@ -52,7 +50,7 @@ pub fn held<R: RightsRule>(
     index: u32,
     at: u8,
 ) -> Result<Slot, Fault>
-    ensures { λ r. ⌜ r ≡ held (R·RightsRule .rule) (now (rights .entry)) process holder index at (frame (now (scene .entry) .tables)) ⌝ }
+    ensures { result ≡ held R.RightsRule.rule rights.now process holder index at (frame scene.now.tables) }
 {
     let slot = scene.tables.reach(process, holder, index, at)?;
     let code = match slot {
@@ -75,7 +73,7 @@ pub fn object_at<R: RightsRule>(
     index: u32,
     at: u8,
 ) -> Result<Cap, Fault>
-    ensures { λ r. ⌜ r ≡ object-at (R·RightsRule .rule) (now (rights .entry)) process holder index at (frame (now (scene .entry) .tables)) ⌝ }
+    ensures { result ≡ object_at R.RightsRule.rule rights.now process holder index at (frame scene.now.tables) }
 {
     match scene.tables.reach(process, holder, index, at)? {
         Slot::Empty => Err(Fault::new(Signal::Snull, at)),

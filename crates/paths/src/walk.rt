@@ -1,13 +1,11 @@
 // Following a path.
-ghost use mathlib.Core.Path.{_≡_};
-ghost use Rattle·model.specs.Plan.{walk};
-ghost use Rattle·objects.specs.Abstract.{frame};
-use crate::slots::object_at;
-use crate::slots::path_ok;
-use model::kinds::Holder;
-use model::kinds::Target;
-use model::rights::LOADRTS;
-use model::rights::UCNFRTS;
+ghost use Rattle.std.specs.Prelude.{◌≡◌};
+ghost use Rattle.model.specs.Plan.{walk};
+ghost use Rattle.objects.specs.Abstract.{frame};
+
+use crate::slots::{object_at, path_ok};
+use model::kinds::{Holder, Target};
+use model::rights::{LOADRTS, UCNFRTS};
 use model::signals::Fault;
 use rights::rule::RightsRule;
 use scene::opened::Scene;
@@ -24,7 +22,7 @@ pub fn walk<R: RightsRule>(
     process: u32,
     path: &[u32],
 ) -> Result<Target, Fault>
-    ensures { λ r. ⌜ r ≡ walk (R·RightsRule .rule) (now (step .entry)) (now (last .entry)) process (now (path .entry)) (frame (now (scene .entry) .tables)) ⌝ }
+    ensures { result ≡ walk R.RightsRule.rule step.now last.now process path.now (frame scene.now.tables) }
 {
     path_ok(path.len())?;
     let mut holder = Holder::Mine;

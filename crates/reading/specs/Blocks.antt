@@ -1,14 +1,8 @@
 -- A block of elements read into a buffer.
-use mathlib.Core.Path.{_≡_}
-use mathlib.Core.List.{List, []}
-use Prim.Native.Nat.{ℕ}
-use lib.IntN.{pos}
-use Rattle·std.specs.declared.option.Option.the-variants.{Some}
-use Rattle·std.specs.declared.result.Result.{Result}
-use Rattle·std.specs.declared.result.Result.the-variants.{Ok, Err}
-use Rattle·model.specs.declared.signals.Fault.{Fault}
-use Rattle·model.specs.Plan.{after}
-use Rattle·model.specs.Kalls.{copied}
+use Rattle.std.specs.Prelude.{◌≡◌, ℕ, List, [], pos, Some, Ok, Err, Result}
+use Rattle.model.specs.declared.signals.Fault.{Fault}
+use Rattle.model.specs.Plan.{after}
+use Rattle.model.specs.Kalls.{copied}
 
 -- a call that answers r takes the buffer from xs to ys, as the block m says
 abbrev pub Reads : {E : Type 0} → Result ℕ Fault → List E → List E → Result (List E) Fault → Type 0

@@ -1,27 +1,22 @@
 // Data parts, read from a shelf that may be only readable.
-ghost use mathlib.Core.Path.{_≡_};
-ghost use mathlib.Core.List.{_++_};
-ghost use Prim.Native.Nat.{_+_, _≤_};
-ghost use lib.ListN.{length, take, drop};
-ghost use Rattle·std.specs.Vec.{made};
-ghost use Rattle·model.specs.Kalls.{block, replied, kall-getdata};
-ghost use Rattle·objects.specs.Abstract.{world};
-ghost use Rattle·reading·specs.Blocks.{Reads};
+ghost use Rattle.std.specs.Prelude.{◌≡◌, ◌+◌, ◌≤◌, ◌++◌, length, take, drop, IfOk};
+ghost use Rattle.model.specs.Kalls.{block, replied, kall_getdata};
+ghost use Rattle.objects.specs.Abstract.{world};
+ghost use Rattle.reading.specs.Blocks.{Reads};
+
 use crate::lengths::read_at;
 use model::kinds::Name;
 use model::rights::GETRTS;
-use model::signals::Fault;
-use model::signals::Signal;
+use model::signals::{Fault, Signal};
 use objects::tables::Tables;
 use rights::rule::RightsRule;
-use scene::opened::Scene;
-use scene::opened::Slip;
+use scene::opened::{Scene, Slip};
 use shelf::traits::ReadableShelf;
 
 pub(crate) fn part_length<S: ReadableShelf>(tables: &Tables, shelf: &mut S, name: Name) -> usize
-    ensures same { λ _. ⌜ S·ReadableShelf .holds (now (shelf .exit)) ≡ S·ReadableShelf .holds (now (shelf .entry)) ⌝ }
-    ensures value { λ r. ⌜ r ≡ length (world (now (tables .entry)) (S·ReadableShelf .holds (now (shelf .entry))) .elements name) ⌝ }
-    ensures bound { λ r. ⌜ r ≤ 64 ⌝ }
+    ensures same { S.ReadableShelf.holds shelf.new ≡ S.ReadableShelf.holds shelf.old }
+    ensures value { result ≡ length ((world tables.now (S.ReadableShelf.holds shelf.old)).elements name) }
+    ensures bound { result ≤ 64 }
 {
     let Some(place) = tables.home(name) else {
         return 0;
@@ -40,11 +35,11 @@ fn copy<S: ReadableShelf>(
     count: usize,
     buffer: &mut [S::Element],
 )
-    requires place { ⌜ 1 ≤ place ⌝ ∗ ⌜ place ≤ 160 ⌝ }
-    requires there { ⌜ start + count ≤ length (S·ReadableShelf .holds (now shelf) place) ⌝ ∗ ⌜ start + count ≤ 64 ⌝ }
-    requires room { ⌜ count ≤ length (now buffer) ⌝ }
-    ensures same { λ _. ⌜ S·ReadableShelf .holds (now (shelf .exit)) ≡ S·ReadableShelf .holds (now (shelf .entry)) ⌝ }
-    ensures value { λ _. ⌜ now (buffer .exit) ≡ take count (drop start (S·ReadableShelf .holds (now (shelf .entry)) place)) ++ drop count (now (buffer .entry)) ⌝ }
+    requires place { (1 ≤ place) × (place ≤ 160) }
+    requires there { (start + count ≤ length (S.ReadableShelf.holds shelf.old place)) × (start + count ≤ 64) }
+    requires room { count ≤ length buffer.old }
+    ensures same { S.ReadableShelf.holds shelf.new ≡ S.ReadableShelf.holds shelf.old }
+    ensures value { buffer.new ≡ take count (drop start (S.ReadableShelf.holds shelf.old place)) ++ drop count buffer.old }
 {
     for i in 0..count {
         buffer[i] = shelf.element(place, start + i + 1).unwrap();
@@ -60,9 +55,9 @@ fn read_block<S: ReadableShelf>(
     knt: u32,
     buffer: &mut [S::Element],
 ) -> Result<usize, Fault>
-    ensures same { λ _. ⌜ S·ReadableShelf .holds (now (shelf .exit)) ≡ S·ReadableShelf .holds (now (shelf .entry)) ⌝ }
-    ensures value { λ r. ⌜ Reads r (now (buffer .entry)) (now (buffer .exit)) (block disp knt (length (now (buffer .entry))) (world (now (tables .entry)) (S·ReadableShelf .holds (now (shelf .entry))) .elements name)) ⌝ }
-    ensures bound { λ r. ⌜ made r (λ n. n ≤ 64) ⌝ }
+    ensures same { S.ReadableShelf.holds shelf.new ≡ S.ReadableShelf.holds shelf.old }
+    ensures value { Reads result buffer.old buffer.new (block disp knt (length buffer.old) ((world tables.now (S.ReadableShelf.holds shelf.old)).elements name)) }
+    ensures bound { IfOk result (λ n. n ≤ 64) }
 {
     let length = part_length(tables, shelf, name);
     let (disp, knt) = (disp as usize, knt as usize);
@@ -89,7 +84,7 @@ pub fn getdata<R: RightsRule, S: ReadableShelf>(
     knt: u32,
     buffer: &mut [S::Element],
 ) -> Result<i32, Fault>
-    ensures { λ r. ⌜ record { answer = r; buffer = now (buffer .exit); after = world (now (scene .exit) .tables) (S·ReadableShelf .holds (now (shelf .exit))) } ≡ replied process (now (buffer .entry)) (world (now (scene .entry) .tables) (S·ReadableShelf .holds (now (shelf .entry)))) (kall-getdata (R·RightsRule .rule) process (now (path .entry)) disp knt (now (buffer .entry)) (world (now (scene .entry) .tables) (S·ReadableShelf .holds (now (shelf .entry))))) ⌝ }
+    ensures { record { answer = result; buffer = buffer.new; after = world scene.new.tables (S.ReadableShelf.holds shelf.new) } ≡ replied process buffer.old (world scene.old.tables (S.ReadableShelf.holds shelf.old)) (kall_getdata R.RightsRule.rule process path.now disp knt buffer.old (world scene.old.tables (S.ReadableShelf.holds shelf.old))) }
 {
     let cap = read_at(scene, GETRTS, process, path)?;
     let count = read_block(&scene.tables, shelf, cap.name, disp, knt, buffer)?;

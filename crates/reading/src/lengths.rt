@@ -1,18 +1,16 @@
 // The kalls that ask for a length.
-ghost use mathlib.Core.Path.{_≡_};
-ghost use Rattle·model.specs.Kalls.{read-at, kall-lenth, kall-clenth, kall-dlenth};
-ghost use Rattle·objects.specs.Abstract.{frame, Does, Does-all};
+ghost use Rattle.std.specs.Prelude.{◌≡◌};
+ghost use Rattle.model.specs.Kalls.{read_at, kall_lenth, kall_clenth, kall_dlenth};
+ghost use Rattle.objects.specs.Abstract.{frame, Does, DoesAll};
+
 use crate::data::part_length;
 use model::kinds::Cap;
-use model::rights::GETRTS;
-use model::rights::LOADRTS;
+use model::rights::{GETRTS, LOADRTS};
 use model::signals::Fault;
-use paths::slots::enter;
-use paths::slots::object_at;
+use paths::slots::{enter, object_at};
 use paths::walk::walk;
 use rights::rule::RightsRule;
-use scene::opened::Scene;
-use scene::opened::Slip;
+use scene::opened::{Scene, Slip};
 use shelf::traits::ReadableShelf;
 
 // An object at the end of a reading walk, with a right.
@@ -22,7 +20,7 @@ pub(crate) fn read_at<R: RightsRule>(
     process: u32,
     path: &[u32],
 ) -> Result<Cap, Fault>
-    ensures { λ r. ⌜ r ≡ read-at (R·RightsRule .rule) process right (now (path .entry)) (frame (now (scene .entry) .tables)) ⌝ }
+    ensures { result ≡ read_at R.RightsRule.rule process right path.now (frame scene.now.tables) }
 {
     enter(scene, process, None, path.len())?;
     let target = walk(scene, &[LOADRTS], &[LOADRTS], process, path)?;
@@ -43,7 +41,7 @@ pub fn lenth<R: RightsRule, S: ReadableShelf>(
     _shelf: &mut S,
     process: u32,
 ) -> Result<i32, Fault>
-    ensures { λ r. ⌜ Does process (kall-lenth (R·RightsRule .rule) process) (now (scene .entry) .tables) (S·ReadableShelf .holds (now («_shelf» .entry))) (now (scene .exit) .tables) (S·ReadableShelf .holds (now («_shelf» .exit))) r ⌝ }
+    ensures { Does process (kall_lenth R.RightsRule.rule process) scene.old.tables (S.ReadableShelf.holds _shelf.old) scene.new.tables (S.ReadableShelf.holds _shelf.new) result }
 {
     scene.tables.running(process)?;
     Ok(scene.tables.length(process) as i32)
@@ -57,7 +55,7 @@ pub fn clenth<R: RightsRule, S: ReadableShelf>(
     process: u32,
     path: &[u32],
 ) -> Result<i32, Fault>
-    ensures { λ r. ⌜ Does process (kall-clenth (R·RightsRule .rule) process (now (path .entry))) (now (scene .entry) .tables) (S·ReadableShelf .holds (now («_shelf» .entry))) (now (scene .exit) .tables) (S·ReadableShelf .holds (now («_shelf» .exit))) r ⌝ }
+    ensures { Does process (kall_clenth R.RightsRule.rule process path.now) scene.old.tables (S.ReadableShelf.holds _shelf.old) scene.new.tables (S.ReadableShelf.holds _shelf.new) result }
 {
     let cap = read_at(scene, LOADRTS, process, path)?;
     Ok(scene.tables.list_length(cap.name) as i32)
@@ -71,7 +69,7 @@ pub fn dlenth<R: RightsRule, S: ReadableShelf>(
     process: u32,
     path: &[u32],
 ) -> Result<i32, Fault>
-    ensures { λ r. ⌜ Does-all process (kall-dlenth (R·RightsRule .rule) process (now (path .entry))) (now (scene .entry) .tables) (S·ReadableShelf .holds (now (shelf .entry))) (now (scene .exit) .tables) (S·ReadableShelf .holds (now (shelf .exit))) r ⌝ }
+    ensures { DoesAll process (kall_dlenth R.RightsRule.rule process path.now) scene.old.tables (S.ReadableShelf.holds shelf.old) scene.new.tables (S.ReadableShelf.holds shelf.new) result }
 {
     let cap = read_at(scene, GETRTS, process, path)?;
     Ok(part_length(&scene.tables, shelf, cap.name) as i32)

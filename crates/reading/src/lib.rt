@@ -1,3 +1,5 @@
+#![tactic(auto)]
+
 pub mod data;
 pub mod lengths;
 pub mod load;

@@ -1,17 +1,15 @@
 // The kall that copies a slot into the current name space.
-ghost use Rattle·model.specs.Kalls.{kall-load};
-ghost use Rattle·objects.specs.Abstract.{Does};
-use model::kinds::Change;
-use model::kinds::Holder;
+ghost use Rattle.model.specs.Kalls.{kall_load};
+ghost use Rattle.objects.specs.Abstract.{Does};
+
+use model::kinds::{Change, Holder};
 use model::rights::LOADRTS;
 use model::signals::Fault;
 use paths::recode::changed;
-use paths::slots::enter;
-use paths::slots::held;
+use paths::slots::{enter, held};
 use paths::walk::walk;
 use rights::rule::RightsRule;
-use scene::opened::Scene;
-use scene::opened::Slip;
+use scene::opened::{Scene, Slip};
 use shelf::traits::ReadableShelf;
 
 pub fn load<R: RightsRule, S: ReadableShelf>(
@@ -22,7 +20,7 @@ pub fn load<R: RightsRule, S: ReadableShelf>(
     new: u32,
     path: &[u32],
 ) -> Result<i32, Fault>
-    ensures { λ r. ⌜ Does process (kall-load (R·RightsRule .rule) process new (now (path .entry))) (now (scene .entry) .tables) (S·ReadableShelf .holds (now («_shelf» .entry))) (now (scene .exit) .tables) (S·ReadableShelf .holds (now («_shelf» .exit))) r ⌝ }
+    ensures { Does process (kall_load R.RightsRule.rule process new path.now) scene.old.tables (S.ReadableShelf.holds _shelf.old) scene.new.tables (S.ReadableShelf.holds _shelf.new) result }
 {
     enter(scene, process, None, path.len())?;
     scene.tables.vacant(process, Holder::Mine, new, 0)?;

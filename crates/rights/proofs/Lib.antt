@@ -1,4 +1,1 @@
-mod BitLaws
 mod Placing
-mod Reading
-mod StepLaws

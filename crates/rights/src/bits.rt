@@ -1,7 +1,10 @@
 // Rights as a word of 21 bits: bit k grants the right k.
-ghost use mathlib.Core.Path.{_≡_};
-ghost use Rattle·rights·specs.Codes.{reading};
-ghost use Rattle·rights·specs.Bits.{bits, valid-bits};
+ghost use Rattle.std.specs.Prelude.{◌≡◌, refl};
+ghost use Rattle.rights.specs.Codes.{reading};
+ghost use Rattle.rights.specs.Bits.{bits, valid_bits};
+ghost use Rattle.rights.specs.BitLaws;
+ghost use Rattle.rights.specs.Reading;
+
 use crate::rule::RightsRule;
 
 #[derive(Drop)]
@@ -14,13 +17,17 @@ const UNSTRIPPED: u32 = 2_095_615;
 const FREE: u32 = 2_095_613;
 
 fn as_bits(code: u32) -> u32
-    ensures { λ r. ⌜ r ≡ reading valid-bits code ⌝ }
+    ensures { result ≡ reading valid_bits code }
 {
     if code < 2_097_152 { code } else { 0 }
 }
 
-pub impl RightsRule for Bits as BitsRule {
+impl RightsRule for Bits {
     ghost rule = { bits };
+
+    ghost lawful = { BitLaws.lawful };
+
+    ghost invalid = { Reading.invalid valid_bits refl };
 
     fn is_valid(&self, code: u32) -> bool {
         code < 2_097_152

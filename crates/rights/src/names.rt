@@ -1,9 +1,9 @@
 // The kernel's own rights, by name.
-ghost use mathlib.Core.Path.{_≡_};
-ghost use Rattle·rights·specs.Names.{place, right-names};
+ghost use Rattle.std.specs.Prelude.{◌≡◌};
+ghost use Rattle.rights.specs.Names.{place, right_names};
 
 pub fn right_by_name(text: &str) -> Option<u8>
-    ensures { λ r. ⌜ r ≡ place right-names (now (text .entry)) 0 ⌝ }
+    ensures { result ≡ place right_names text.now 0 }
 {
     match text {
         "DLTRTS" => Some(0),

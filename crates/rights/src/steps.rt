@@ -1,20 +1,23 @@
 // Rights as steps of a review, 0 to 3: each step grants what the one below it does, and more.
-ghost use mathlib.Core.Path.{_≡_};
-ghost use Rattle·rights·specs.Codes.{reading};
-ghost use Rattle·rights·specs.Steps.{steps, valid-steps, first-step};
+ghost use Rattle.std.specs.Prelude.{◌≡◌, refl};
+ghost use Rattle.rights.specs.Codes.{reading};
+ghost use Rattle.rights.specs.Steps.{steps, valid_steps, first_step};
+ghost use Rattle.rights.specs.StepLaws;
+ghost use Rattle.rights.specs.Reading;
+
 use crate::rule::RightsRule;
 
 #[derive(Drop)]
 pub struct Steps {}
 
 fn as_step(code: u32) -> u32
-    ensures { λ r. ⌜ r ≡ reading valid-steps code ⌝ }
+    ensures { result ≡ reading valid_steps code }
 {
     if code < 4 { code } else { 0 }
 }
 
 fn first_step(right: u8) -> u32
-    ensures { λ r. ⌜ r ≡ first-step right ⌝ }
+    ensures { result ≡ first_step right }
 {
     match right {
         0 => 0,
@@ -25,8 +28,12 @@ fn first_step(right: u8) -> u32
     }
 }
 
-pub impl RightsRule for Steps as StepsRule {
+impl RightsRule for Steps {
     ghost rule = { steps };
+
+    ghost lawful = { StepLaws.lawful };
+
+    ghost invalid = { Reading.invalid valid_steps refl };
 
     fn is_valid(&self, code: u32) -> bool {
         code < 4

@@ -1,22 +1,15 @@
 -- Requests as they are asked, and what their owners read of them after a run.
-use mathlib.Core.Path.{_≡_}
-use mathlib.Core.List.{List, [], _∷_, map}
-use Prim.Native.Nat.{ℕ}
-use lib.IntN.{ℤ}
-use Rattle·std.specs.declared.option.Option.{Option}
-use Rattle·std.specs.declared.option.Option.the-variants.{Some}
-use Rattle·std.specs.declared.result.Result.{Result}
-use Rattle·std.specs.Of.Vec.{vec-items}
-use Rattle·model.specs.declared.signals.Fault.{Fault}
-use Rattle·model.specs.declared.kinds.Name.{Name}
-use Rattle·model.specs.declared.kinds.Kall.{Kall}
-use Rattle·model.specs.declared.kinds.Request.{Request}
-use Rattle·model.specs.Model.{World, Rule}
-use Rattle·model.specs.Kalls.{Asked, Event, run}
-use Rattle·objects.specs.Abstract.{elements-at}
+use Rattle.std.specs.Prelude.{◌≡◌, ℕ, List, [], ◌∷◌, map, ℤ, Some, vec_items, Option, Result}
+use Rattle.model.specs.declared.signals.Fault.{Fault}
+use Rattle.model.specs.declared.kinds.Name.{Name}
+use Rattle.model.specs.declared.kinds.Kall.{Kall}
+use Rattle.model.specs.declared.kinds.Request.{Request}
+use Rattle.model.specs.Model.{World, Rule}
+use Rattle.model.specs.Kalls.{Asked, Event, run}
+use Rattle.objects.specs.Abstract.{elements_at}
 
 abbrev pub ask : {E : Type 0} → Request E → Asked E
-ask q = record { caller = q .process; kall = q .kall; buffer = vec-items (q .buffer) }
+ask q = record { caller = q.process; kall = q.kall; buffer = vec_items q.buffer }
 
 pub record View (E : Type 0) : Type 0 where
   pub caller : ℕ
@@ -25,15 +18,15 @@ pub record View (E : Type 0) : Type 0 where
   pub answer : Option (Result ℤ Fault)
 
 abbrev pub view : {E : Type 0} → Request E → View E
-view q = record { caller = q .process; kall = q .kall; buffer = vec-items (q .buffer); answer = q .answer }
+view q = record { caller = q.process; kall = q.kall; buffer = vec_items q.buffer; answer = q.answer }
 
 -- what an event tells the owner of its request
 abbrev pub told : {E : Type 0} → Event E → View E
-told e = record { caller = e .caller; kall = e .kall; buffer = e .buffer; answer = Some (e .answer) }
+told e = record { caller = e.caller; kall = e.kall; buffer = e.buffer; answer = Some e.answer }
 
 abbrev pub ending : {E : Type 0} → World E → List (Event E) → World E
 ending w [] = w
-ending w (e ∷ es) = ending (e .world) es
+ending w (e ∷ es) = ending e.world es
 
 -- what a run of the requests tells, and the scene that it leaves
 abbrev pub played : {E : Type 0} → Rule → World E → List (Request E) → List (View E)
@@ -43,5 +36,5 @@ abbrev pub afterwards : {E : Type 0} → Rule → World E → List (Request E) �
 afterwards rule w qs = ending w (run rule (map ask qs) w)
 
 -- a shelf that holds h has the elements of every name, wherever they lie
-abbrev pub Lies-on : {E : Type 0} → (ℕ → List E) → (Name → List E) → Type 0
-Lies-on h elements = (lie : Name → Option ℕ) × ((n : Name) → elements-at h (lie n) ≡ elements n)
+abbrev pub LiesOn : {E : Type 0} → (ℕ → List E) → (Name → List E) → Type 0
+LiesOn h elements = (lie : Name → Option ℕ) × ((n : Name) → elements_at h (lie n) ≡ elements n)

@@ -1,35 +1,22 @@
 // A list of requests is played, from the opening of a scene to its reckoning.
-ghost use mathlib.Core.Path.{_≡_};
-ghost use mathlib.Core.List.{map};
-ghost use Rattle·std.specs.Of.Vec.{vec-items};
-ghost use Rattle·model.specs.Kalls.{plan, replied, serve};
-ghost use Rattle·model.specs.SetUp.{reckoning};
-ghost use Rattle·model.specs.Isolation.{Isolates};
-ghost use Rattle·objects.specs.Abstract.{world};
-ghost use Rattle·run·specs.Play.{ask, view, told, played, afterwards, Lies-on};
-use model::kinds::Kall;
-use model::kinds::Request;
+ghost use Rattle.std.specs.Prelude.{◌≡◌, map};
+ghost use Rattle.model.specs.Kalls.{plan, replied, serve};
+ghost use Rattle.model.specs.SetUp.{reckoning};
+ghost use Rattle.model.specs.Isolation.{Isolates};
+ghost use Rattle.objects.specs.Abstract.{world};
+ghost use Rattle.run.specs.Play.{ask, view, told, played, afterwards, LiesOn};
+
+use model::kinds::{Kall, Request};
 use model::signals::Fault;
-use moving::moves::delete;
-use moving::moves::interchange;
-use moving::moves::pass;
-use moving::moves::take;
+use moving::moves::{delete, interchange, pass, take};
 use reading::data::getdata;
-use reading::lengths::clenth;
-use reading::lengths::dlenth;
-use reading::lengths::lenth;
+use reading::lengths::{clenth, dlenth, lenth};
 use reading::load::load;
 use rights::rule::RightsRule;
-use scene::opened::Reckoning;
-use scene::opened::Scene;
-use scene::opened::Slip;
-use scene::opened::open;
-use scene::opened::reckon;
+use scene::opened::{Reckoning, Scene, Slip, open, reckon};
 use scene::setup::SetUp;
 use shelf::traits::WritableShelf;
-use storing::stores::append;
-use storing::stores::passappend;
-use storing::stores::store;
+use storing::stores::{append, passappend, store};
 
 fn perform<R: RightsRule, S: WritableShelf>(
     scene: &mut Scene<R>,
@@ -39,7 +26,7 @@ fn perform<R: RightsRule, S: WritableShelf>(
     kall: &Kall,
     buffer: &mut Vec<S::Element>,
 ) -> Result<i32, Fault>
-    ensures { λ r. ⌜ record { answer = r; buffer = vec-items (now (buffer .exit)); after = world (now (scene .exit) .tables) (S·ReadableShelf .holds (now (shelf .exit))) } ≡ replied process (vec-items (now (buffer .entry))) (world (now (scene .entry) .tables) (S·ReadableShelf .holds (now (shelf .entry)))) (plan (R·RightsRule .rule) process (now (kall .entry)) (vec-items (now (buffer .entry))) (world (now (scene .entry) .tables) (S·ReadableShelf .holds (now (shelf .entry))))) ⌝ }
+    ensures { record { answer = result; buffer = buffer.new.items; after = world scene.new.tables (S.ReadableShelf.holds shelf.new) } ≡ replied process buffer.old.items (world scene.old.tables (S.ReadableShelf.holds shelf.old)) (plan R.RightsRule.rule process kall.now buffer.old.items (world scene.old.tables (S.ReadableShelf.holds shelf.old))) }
 {
     match kall {
         Kall::Lenth => lenth(scene, slip, shelf, process),
@@ -113,8 +100,8 @@ pub fn serve<R: RightsRule, S: WritableShelf>(
     shelf: &mut S,
     request: &mut Request<S::Element>,
 )
-    ensures view { λ _. ⌜ view (now (request .exit)) ≡ told (serve (R·RightsRule .rule) (ask (now (request .entry))) (world (now (scene .entry) .tables) (S·ReadableShelf .holds (now (shelf .entry))))) ⌝ }
-    ensures after { λ _. ⌜ world (now (scene .exit) .tables) (S·ReadableShelf .holds (now (shelf .exit))) ≡ serve (R·RightsRule .rule) (ask (now (request .entry))) (world (now (scene .entry) .tables) (S·ReadableShelf .holds (now (shelf .entry)))) .world ⌝ }
+    ensures view { view request.new ≡ told (serve R.RightsRule.rule (ask request.old) (world scene.old.tables (S.ReadableShelf.holds shelf.old))) }
+    ensures after { world scene.new.tables (S.ReadableShelf.holds shelf.new) ≡ (serve R.RightsRule.rule (ask request.old) (world scene.old.tables (S.ReadableShelf.holds shelf.old))).world }
 {
     let answer = perform(
         scene,
@@ -133,8 +120,8 @@ pub fn serve_all<R: RightsRule, S: WritableShelf>(
     shelf: &mut S,
     requests: &mut [Request<S::Element>],
 )
-    ensures answers { λ _. ⌜ map view (now (requests .exit)) ≡ played (R·RightsRule .rule) (world (now (scene .entry) .tables) (S·ReadableShelf .holds (now (shelf .entry)))) (now (requests .entry)) ⌝ }
-    ensures after { λ _. ⌜ world (now (scene .exit) .tables) (S·ReadableShelf .holds (now (shelf .exit))) ≡ afterwards (R·RightsRule .rule) (world (now (scene .entry) .tables) (S·ReadableShelf .holds (now (shelf .entry)))) (now (requests .entry)) ⌝ }
+    ensures answers { map view requests.new ≡ played R.RightsRule.rule (world scene.old.tables (S.ReadableShelf.holds shelf.old)) requests.old }
+    ensures after { world scene.new.tables (S.ReadableShelf.holds shelf.new) ≡ afterwards R.RightsRule.rule (world scene.old.tables (S.ReadableShelf.holds shelf.old)) requests.old }
 {
     for request in requests.iter_mut() {
         serve(scene, slip, shelf, request);
@@ -147,10 +134,10 @@ pub fn play<R: RightsRule + Drop, S: WritableShelf>(
     shelf: &mut S,
     requests: &mut [Request<S::Element>],
 ) -> Reckoning
-    ensures answers { λ _. ⌜ map view (now (requests .exit)) ≡ played (R·RightsRule .rule) (world («set_up» .tables) (S·ReadableShelf .holds (now (shelf .entry)))) (now (requests .entry)) ⌝ }
-    ensures reckoned { λ r. ⌜ r .living ≡ reckoning (afterwards (R·RightsRule .rule) (world («set_up» .tables) (S·ReadableShelf .holds (now (shelf .entry)))) (now (requests .entry)) .frame) ⌝ }
-    ensures shelved { λ _. ⌜ Lies-on (S·ReadableShelf .holds (now (shelf .exit))) (afterwards (R·RightsRule .rule) (world («set_up» .tables) (S·ReadableShelf .holds (now (shelf .entry)))) (now (requests .entry)) .elements) ⌝ }
-    ensures isolated { λ _. ⌜ Isolates (R·RightsRule .rule) (world («set_up» .tables) (S·ReadableShelf .holds (now (shelf .entry)))) (map ask (now (requests .entry))) ⌝ }
+    ensures answers { map view requests.new ≡ played R.RightsRule.rule (world set_up.tables (S.ReadableShelf.holds shelf.old)) requests.old }
+    ensures reckoned { result.living ≡ reckoning (afterwards R.RightsRule.rule (world set_up.tables (S.ReadableShelf.holds shelf.old)) requests.old).frame }
+    ensures shelved { LiesOn (S.ReadableShelf.holds shelf.new) (afterwards R.RightsRule.rule (world set_up.tables (S.ReadableShelf.holds shelf.old)) requests.old).elements }
+    ensures isolated { Isolates R.RightsRule.rule (world set_up.tables (S.ReadableShelf.holds shelf.old)) (map ask requests.old) }
 {
     let (mut scene, slip) = open(set_up);
     serve_all(&mut scene, &slip, shelf, requests);

@@ -1,34 +1,29 @@
 -- Set-up keeps to the house.
-use mathlib.Core.Path.{_≡_, sym, ap, subst}
-use mathlib.Core.List.{List}
-use Prim.Native.Nat.{ℕ}
-use native.Mathlib.Omega.{arith}
-use Rattle·std.specs.declared.result.Result.{Result}
-use Rattle·std.specs.declared.result.Result.the-variants.{Ok, Err}
-use Rattle·model.specs.declared.signals.Fault.{Fault}
-use Rattle·model.specs.Model.{Frame, World}
-use Rattle·model.specs.Plan.{after}
-use Rattle·model.specs.Kalls.{on-process, made}
-use Rattle·model.specs.SetUp.{House-objects, House-held, House-listed, Change, Sets, enrol, unenrolled, newcomer, Creates}
-use Rattle·model.proofs.Opened.{Opened, opened-enrolled, opened-made}
+use Rattle.std.proofs.Common.{◌≡◌, ℕ, List, Ok, Err, Result, sym, ap, subst, arith}
+use Rattle.model.specs.declared.signals.Fault.{Fault}
+use Rattle.model.specs.Model.{Frame, World}
+use Rattle.model.specs.Plan.{after}
+use Rattle.model.specs.Kalls.{on_process, made}
+use Rattle.model.specs.SetUp.{HouseObjects, HouseHeld, HouseListed, Change, Sets, enrol, unenrolled, newcomer, Creates}
+use Rattle.model.proofs.Opened.{Opened, opened_enrolled, opened_made}
 
 abbrev pub Housed : Frame → Type 0
-Housed f = House-objects f × (House-held f × (House-listed f × Unit {0}))
+Housed f = HouseObjects f × (HouseHeld f × (HouseListed f × Unit {0}))
 
 pub housed : (f f' : Frame) → f' ≡ f → Opened f → Housed f'
-housed f f' e o = subst Housed (sym e) (o .objects, (o .held, (o .listed, tt)))
+housed f f' e o = subst Housed (sym e) (o.objects, (o.held, (o.listed, tt)))
 
-pub enrol-housed : {H : Type 0} (r : Result ℕ Fault) (f f' : Frame) (h h' : H) → Opened f → Sets r f h f' h' (enrol f) → Housed f'
-enrol-housed (Err e) f f' h h' o s = housed f f' (s .1) o
-enrol-housed (Ok v) f f' h h' o s = go (unenrolled (f .process) 8 1) (s .0)
+pub enrol_housed : {H : Type 0} (r : Result ℕ Fault) (f f' : Frame) (h h' : H) → Opened f → Sets r f h f' h' (enrol f) → Housed f'
+enrol_housed (Err e) f f' h h' o s = housed f f' s.1 o
+enrol_housed (Ok v) f f' h h' o s = go (unenrolled f.process 8 1) s.0
   where
-    go : (u : Result ℕ Fault) → _≡_ {A = Result (Change Frame) Fault} (Ok (record { value = v; after = f' })) (after u (λ p. Ok (record { value = p; after = on-process p (λ _. newcomer) f }))) → Housed f'
-    go (Err e) q = let z : _≡_ {A = ℕ} 0 1 = cc in absurd (omega arith)
+    go : (u : Result ℕ Fault) → ◌≡◌ {A = Result (Change Frame) Fault} (Ok (record { value = v; after = f' })) (after u (λ p. Ok (record { value = p; after = on_process p (λ _. newcomer) f }))) → Housed f'
+    go (Err e) q = let z : ◌≡◌ {A = ℕ} 0 1 = cc in absurd (omega arith)
     go (Ok p) q =
-        let r : _≡_ {A = Change Frame} (record { value = v; after = f' }) (record { value = p; after = on-process p (λ _. newcomer) f }) = cc in
-        let e : f' ≡ on-process p (λ _. newcomer) f = ap (λ (x : Change Frame). x .after) r in
-        housed (on-process p (λ _. newcomer) f) f' e (opened-enrolled o p)
+        let r : ◌≡◌ {A = Change Frame} (record { value = v; after = f' }) (record { value = p; after = on_process p (λ _. newcomer) f }) = cc in
+        let e : f' ≡ on_process p (λ _. newcomer) f = ap (λ (x : Change Frame). x.after) r in
+        housed (on_process p (λ _. newcomer) f) f' e (opened_enrolled o p)
 
-pub create-housed : {E : Type 0} (r : Result ℕ Fault) (kind : ℕ) (xs : List E) (w w' : World E) → Opened (w .frame) → Creates 0 kind xs w w' r → Housed (w' .frame)
-create-housed (Err e) kind xs w w' o s = housed (w .frame) (w' .frame) (ap (λ x. x .frame) (s .1)) o
-create-housed (Ok v) kind xs w w' o s = housed (made 0 kind (w .frame)) (w' .frame) (ap (λ x. x .frame) (s .1)) (opened-made o kind)
+pub create_housed : {E : Type 0} (r : Result ℕ Fault) (kind : ℕ) (xs : List E) (w w' : World E) → Opened w.frame → Creates 0 kind xs w w' r → Housed w'.frame
+create_housed (Err e) kind xs w w' o s = housed w.frame w'.frame (ap (λ x. x.frame) s.1) o
+create_housed (Ok v) kind xs w w' o s = housed (made 0 kind w.frame) w'.frame (ap (λ x. x.frame) s.1) (opened_made o kind)

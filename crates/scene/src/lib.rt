@@ -1,2 +1,4 @@
+#![tactic(auto)]
+
 pub mod opened;
 pub mod setup;

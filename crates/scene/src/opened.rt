@@ -1,7 +1,8 @@
 // A scene that is opened, and the slip that must be spent to end it.
-ghost use mathlib.Core.Path.{_≡_};
-ghost use Rattle·model.specs.SetUp.{reckoning};
-ghost use Rattle·objects.specs.Abstract.{frame};
+ghost use Rattle.std.specs.Prelude.{◌≡◌};
+ghost use Rattle.model.specs.SetUp.{reckoning};
+ghost use Rattle.objects.specs.Abstract.{frame};
+
 use crate::setup::SetUp;
 use objects::tables::Tables;
 use rights::rule::RightsRule;
@@ -23,14 +24,14 @@ pub struct Reckoning {
 }
 
 pub fn open<R: RightsRule>(set_up: SetUp<R>) -> (Scene<R>, Slip)
-    ensures { λ r. ⌜ r .0 .tables ≡ «set_up» .tables ⌝ }
+    ensures { result.0.tables ≡ set_up.tables }
 {
     let SetUp { rule, tables } = set_up;
     (Scene { rule, tables }, Slip { mark: () })
 }
 
 pub fn reckon<R: RightsRule + Drop>(scene: Scene<R>, slip: Slip) -> Reckoning
-    ensures { λ r. ⌜ r .living ≡ reckoning (frame (scene .tables)) ⌝ }
+    ensures { result.living ≡ reckoning (frame scene.tables) }
 {
     let Slip { mark: _ } = slip;
     let Scene { rule: _, tables } = scene;

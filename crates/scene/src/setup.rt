@@ -1,19 +1,12 @@
 // A scene is set up: processes are enrolled, house objects made, slots planted.
-ghost use mathlib.Core.Path.{_≡_};
-ghost use lib.ListN.{replicate};
-ghost use Rattle·model.specs.declared.kinds.Slot.the-variants.{Empty};
-ghost use Rattle·model.specs.Plan.{code-ok};
-ghost use Rattle·model.specs.SetUp.{House-objects, House-held, House-listed, Sets, Sets-all, bare, enrol, furnish, fits, plant, template, house, holder, caller, wanted-ok, codes-ok};
-ghost use Rattle·objects.specs.Abstract.{frame, homes, world};
-use model::kinds::Cap;
-use model::kinds::Form;
-use model::kinds::Holder;
-use model::kinds::Limits;
-use model::kinds::Name;
-use model::kinds::Owner;
-use model::kinds::Slot;
-use model::signals::Fault;
-use model::signals::Signal;
+ghost use Rattle.std.specs.Prelude.{◌≡◌, replicate};
+ghost use Rattle.model.specs.declared.kinds.Slot.TheVariants.{Empty};
+ghost use Rattle.model.specs.Plan.{code_ok};
+ghost use Rattle.model.specs.SetUp.{HouseObjects, HouseHeld, HouseListed, Sets, SetsAll, bare, enrol, furnish, fits, plant, template, house, holder, caller, wanted_ok, codes_ok};
+ghost use Rattle.objects.specs.Abstract.{frame, homes, world};
+
+use model::kinds::{Cap, Form, Holder, Limits, Name, Owner, Slot};
+use model::signals::{Fault, Signal};
 use objects::fill::create;
 use objects::limits::limits;
 use objects::tables::Tables;
@@ -25,19 +18,19 @@ use shelf::traits::WritableShelf;
 pub struct SetUp<R> {
     pub rule: R,
     pub tables: Tables,
-    ghost objects: { House-objects (frame tables) },
-    ghost held: { House-held (frame tables) },
-    ghost listed: { House-listed (frame tables) },
+    ghost objects: { HouseObjects (frame tables) },
+    ghost held: { HouseHeld (frame tables) },
+    ghost listed: { HouseListed (frame tables) },
 }
 
 fn house(number: u32) -> Name
-    ensures { λ r. ⌜ r ≡ house number ⌝ }
+    ensures { result ≡ house number }
 {
     Name { share: 0, number }
 }
 
 fn holder(owner: Owner) -> Holder
-    ensures { λ r. ⌜ r ≡ holder owner ⌝ }
+    ensures { result ≡ holder owner }
 {
     match owner {
         Owner::Process(_) => Holder::Mine,
@@ -46,7 +39,7 @@ fn holder(owner: Owner) -> Holder
 }
 
 fn caller(owner: Owner) -> u32
-    ensures { λ r. ⌜ r ≡ caller owner ⌝ }
+    ensures { result ≡ caller owner }
 {
     match owner {
         Owner::Process(process) => process,
@@ -55,7 +48,7 @@ fn caller(owner: Owner) -> u32
 }
 
 fn fits(count: u32, given: usize, limits: Limits) -> Result<u32, Fault>
-    ensures { λ r. ⌜ r ≡ fits count given limits ⌝ }
+    ensures { result ≡ fits count given limits }
 {
     if count as usize <= limits.elements && count as usize <= given {
         Ok(0)
@@ -65,7 +58,7 @@ fn fits(count: u32, given: usize, limits: Limits) -> Result<u32, Fault>
 }
 
 fn code_ok<R: RightsRule>(rule: &R, code: u32) -> Result<u32, Fault>
-    ensures { λ r. ⌜ r ≡ code-ok (R·RightsRule .rule) code ⌝ }
+    ensures { result ≡ code_ok R.RightsRule.rule code }
 {
     if rule.is_valid(code) {
         Ok(0)
@@ -75,7 +68,7 @@ fn code_ok<R: RightsRule>(rule: &R, code: u32) -> Result<u32, Fault>
 }
 
 fn codes_ok<R: RightsRule>(rule: &R, form: Form) -> Result<u32, Fault>
-    ensures { λ r. ⌜ r ≡ codes-ok (R·RightsRule .rule) form ⌝ }
+    ensures { result ≡ codes_ok R.RightsRule.rule form }
 {
     code_ok(rule, form.rights)?;
     code_ok(rule, form.check)?;
@@ -83,7 +76,7 @@ fn codes_ok<R: RightsRule>(rule: &R, form: Form) -> Result<u32, Fault>
 }
 
 fn wanted_ok(kind: u32) -> Result<Limits, Fault>
-    ensures { λ r. ⌜ r ≡ wanted-ok kind ⌝ }
+    ensures { result ≡ wanted_ok kind }
 {
     if kind == 0 {
         Ok(Limits {
@@ -97,8 +90,8 @@ fn wanted_ok(kind: u32) -> Result<Limits, Fault>
 
 impl<R: RightsRule> SetUp<R> {
     pub fn new(rule: R) -> SetUp<R>
-        ensures scene { λ r. ⌜ frame (r .tables) ≡ bare ⌝ }
-        ensures slots { λ r. ⌜ r .tables .slots ≡ replicate 1280 Empty ⌝ }
+        ensures scene { frame result.tables ≡ bare }
+        ensures slots { result.tables.slots ≡ replicate 1280 Empty }
     {
         SetUp {
             rule,
@@ -108,7 +101,7 @@ impl<R: RightsRule> SetUp<R> {
 
     // The next process, with an empty name space: its number.
     pub fn enrol(&mut self) -> Result<u32, Fault>
-        ensures { λ r. ⌜ Sets r (frame (now (self .entry) .tables)) (homes (now (self .entry) .tables)) (frame (now (self .exit) .tables)) (homes (now (self .exit) .tables)) (enrol (frame (now (self .entry) .tables))) ⌝ }
+        ensures { Sets result (frame self.old.tables) (homes self.old.tables) (frame self.new.tables) (homes self.new.tables) (enrol (frame self.old.tables)) }
     {
         self.tables.enrol()
     }
@@ -121,7 +114,7 @@ impl<R: RightsRule> SetUp<R> {
         count: u32,
         buffer: &[S::Element],
     ) -> Result<u32, Fault>
-        ensures { λ r. ⌜ Sets-all r (world (now (self .entry) .tables) (S·ReadableShelf .holds (now (shelf .entry)))) (world (now (self .exit) .tables) (S·ReadableShelf .holds (now (shelf .exit)))) (furnish kind count (now (buffer .entry)) (world (now (self .entry) .tables) (S·ReadableShelf .holds (now (shelf .entry))))) ⌝ }
+        ensures { SetsAll result (world self.old.tables (S.ReadableShelf.holds shelf.old)) (world self.new.tables (S.ReadableShelf.holds shelf.new)) (furnish kind count buffer.now (world self.old.tables (S.ReadableShelf.holds shelf.old))) }
     {
         let limits = limits(kind)?;
         fits(count, buffer.len(), limits)?;
@@ -130,7 +123,7 @@ impl<R: RightsRule> SetUp<R> {
 
     // A capability for a house object in an empty slot.
     pub fn plant(&mut self, owner: Owner, slot: u32, object: u32, code: u32) -> Result<u32, Fault>
-        ensures { λ r. ⌜ Sets r (frame (now (self .entry) .tables)) (homes (now (self .entry) .tables)) (frame (now (self .exit) .tables)) (homes (now (self .exit) .tables)) (plant (R·RightsRule .rule) owner slot object code (frame (now (self .entry) .tables))) ⌝ }
+        ensures { Sets result (frame self.old.tables) (homes self.old.tables) (frame self.new.tables) (homes self.new.tables) (plant R.RightsRule.rule owner slot object code (frame self.old.tables)) }
     {
         self.tables.owned(owner)?;
         self.tables.vacant(caller(owner), holder(owner), slot, 0)?;
@@ -146,7 +139,7 @@ impl<R: RightsRule> SetUp<R> {
 
     // A template in an empty slot.
     pub fn template(&mut self, owner: Owner, slot: u32, form: Form) -> Result<u32, Fault>
-        ensures { λ r. ⌜ Sets r (frame (now (self .entry) .tables)) (homes (now (self .entry) .tables)) (frame (now (self .exit) .tables)) (homes (now (self .exit) .tables)) (template (R·RightsRule .rule) owner slot form (frame (now (self .entry) .tables))) ⌝ }
+        ensures { Sets result (frame self.old.tables) (homes self.old.tables) (frame self.new.tables) (homes self.new.tables) (template R.RightsRule.rule owner slot form (frame self.old.tables)) }
     {
         self.tables.owned(owner)?;
         self.tables.vacant(caller(owner), holder(owner), slot, 0)?;

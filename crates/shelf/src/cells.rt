@@ -1,20 +1,16 @@
 // Cells that a caller lends to a shelf, one for each element that it can ever hold, and the shelves that keep their elements in them.
-ghost use denote.Ref.{now};
-ghost use lib.ListN.{length};
-ghost use mathlib.Core.Path.{_≡_};
-ghost use Prim.Native.Nat.{_≤_};
-ghost use Rattle·std.specs.Results.{mapped};
-ghost use Rattle·shelf·specs.Places.{most, counted};
-use crate::lengths::Lengths;
-use crate::lengths::refusal;
-use crate::traits::LONGEST;
-use crate::traits::PLACES;
+ghost use Rattle.std.specs.Prelude.{◌≡◌, ◌≤◌, length};
+ghost use Rattle.std.specs.Result.{result_map_both};
+ghost use Rattle.shelf.specs.Places.{most, counted};
+
+use crate::lengths::{Lengths, refusal};
+use crate::traits::{LONGEST, PLACES};
 use model::signals::Fault;
 
 #[derive(Drop)]
 pub struct Cells<'a, E> {
     pub(crate) cells: &'a mut [E],
-    ghost enough: { most ≤ length (now cells) },
+    ghost enough: { most ≤ length cells.now },
 }
 
 // 64 cells for each place, used or not.
@@ -22,7 +18,7 @@ pub struct Cells<'a, E> {
 pub struct Rows<'a, E> {
     pub(crate) cells: &'a mut [E],
     pub(crate) lengths: Lengths,
-    ghost enough: { most ≤ length (now cells) },
+    ghost enough: { most ≤ length cells.now },
 }
 
 // The sequences end to end, in the order of their places.
@@ -30,12 +26,12 @@ pub struct Rows<'a, E> {
 pub struct Packed<'a, E> {
     pub(crate) cells: &'a mut [E],
     pub(crate) lengths: Lengths,
-    ghost enough: { most ≤ length (now cells) },
+    ghost enough: { most ≤ length cells.now },
 }
 
 impl<'a, E> Cells<'a, E> {
     pub fn counted(cells: &'a mut [E]) -> Result<Cells<'a, E>, Fault>
-        ensures { λ r. ⌜ mapped (λ c. now (c .cells)) (λ e. e) r ≡ counted (now (cells .entry)) ⌝ }
+        ensures { result_map_both (λ c. c.cells.now) (λ e. e) result ≡ counted cells.old }
     {
         if cells.len() < PLACES * LONGEST {
             return Err(refusal());

@@ -1,3 +1,5 @@
+#![tactic(auto)]
+
 pub mod cells;
 pub(crate) mod lengths;
 pub mod packed;

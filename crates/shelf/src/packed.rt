@@ -1,21 +1,18 @@
 // The shelf that keeps its sequences end to end: later ones move as an earlier one grows or is cleared.
-ghost use mathlib.Core.List.{[]};
-ghost use mathlib.Core.Path.{_≡_};
-ghost use Prim.Native.Nat.{_+_, _-_, _≤_, _<_};
-ghost use lib.ListN.{getD};
-ghost use Rattle·shelf·specs.Places.{most};
-ghost use Rattle·shelf·specs.Kept.{Shifted};
-ghost use Rattle·shelf·specs.Held.{«in-packed»};
+ghost use Rattle.std.specs.Prelude.{◌≡◌, ◌+◌, ◌-◌, ◌<◌, ◌≤◌, [], slice_index_or};
+ghost use Rattle.shelf.specs.Places.{most};
+ghost use Rattle.shelf.specs.Kept.{Shifted};
+ghost use Rattle.shelf.specs.Held.{in_packed};
+
 use crate::cells::Cells;
 pub use crate::cells::Packed;
 use crate::lengths::Lengths;
-use crate::traits::ReadableShelf;
-use crate::traits::WritableShelf;
+use crate::traits::{ReadableShelf, WritableShelf};
 use model::signals::Fault;
 
 impl<'a, E> Packed<'a, E> {
     pub fn new(cells: Cells<'a, E>) -> Packed<'a, E>
-        ensures { λ r. ⌜ «in-packed» r ≡ (λ _. []) ⌝ }
+        ensures { in_packed result ≡ (λ _. []) }
     {
         let lent = cells.cells;
         let lengths = Lengths::new();
@@ -28,9 +25,9 @@ impl<'a, E> Packed<'a, E> {
 
 impl<'a, E: Copy> Packed<'a, E> {
     fn shift_up(&mut self, from: usize, to: usize)
-        requires { ⌜ from ≤ to ⌝ ∗ ⌜ to < most ⌝ }
-        ensures cells { λ _. ⌜ Shifted from to (from + 1) (now (now (self .entry) .cells)) (now (now (self .exit) .cells)) ⌝ }
-        ensures lengths { λ _. ⌜ now (self .exit) .lengths .table ≡ now (self .entry) .lengths .table ⌝ }
+        requires { (from ≤ to) × (to < most) }
+        ensures cells { Shifted from to (from + 1) self.old.cells.now self.new.cells.now }
+        ensures lengths { self.new.lengths.table ≡ self.old.lengths.table }
     {
         for i in (from..to).rev() {
             self.cells[i + 1] = self.cells[i];
@@ -39,19 +36,19 @@ impl<'a, E: Copy> Packed<'a, E> {
 
     // Makes room for an element among the cells up to `to`, and puts it there.
     fn insert(&mut self, at: usize, to: usize, element: E)
-        requires { ⌜ at ≤ to ⌝ ∗ ⌜ to < most ⌝ }
-        ensures cells { λ _. ⌜ Shifted at to (at + 1) (now (now (self .entry) .cells)) (now (now (self .exit) .cells)) ⌝ }
-        ensures here { λ _. ⌜ getD (now (now (self .exit) .cells)) at element ≡ element ⌝ }
-        ensures lengths { λ _. ⌜ now (self .exit) .lengths .table ≡ now (self .entry) .lengths .table ⌝ }
+        requires { (at ≤ to) × (to < most) }
+        ensures cells { Shifted at to (at + 1) self.old.cells.now self.new.cells.now }
+        ensures here { slice_index_or self.new.cells.now at element ≡ element }
+        ensures lengths { self.new.lengths.table ≡ self.old.lengths.table }
     {
         self.shift_up(at, to);
         self.cells[at] = element;
     }
 
     fn shift_down(&mut self, from: usize, to: usize, n: usize)
-        requires { ⌜ n ≤ from ⌝ ∗ ⌜ from ≤ to ⌝ ∗ ⌜ to ≤ most ⌝ }
-        ensures cells { λ _. ⌜ Shifted from to (from - n) (now (now (self .entry) .cells)) (now (now (self .exit) .cells)) ⌝ }
-        ensures lengths { λ _. ⌜ now (self .exit) .lengths .table ≡ now (self .entry) .lengths .table ⌝ }
+        requires { (n ≤ from) × ((from ≤ to) × (to ≤ most)) }
+        ensures cells { Shifted from to (from - n) self.old.cells.now self.new.cells.now }
+        ensures lengths { self.new.lengths.table ≡ self.old.lengths.table }
     {
         for i in from..to {
             self.cells[i - n] = self.cells[i];
@@ -59,10 +56,10 @@ impl<'a, E: Copy> Packed<'a, E> {
     }
 }
 
-pub impl<'a, E: Copy> ReadableShelf for Packed<'a, E> as PackedRead {
+impl<'a, E: Copy> ReadableShelf for Packed<'a, E> {
     type Element = E;
 
-    ghost holds = { «in-packed» };
+    ghost holds = { in_packed };
 
     fn length(&mut self, place: usize) -> Result<usize, Fault> {
         self.lengths.of(place)
@@ -75,7 +72,7 @@ pub impl<'a, E: Copy> ReadableShelf for Packed<'a, E> as PackedRead {
     }
 }
 
-pub impl<'a, E: Copy> WritableShelf for Packed<'a, E> as PackedWrite {
+impl<'a, E: Copy> WritableShelf for Packed<'a, E> {
     fn replace(&mut self, place: usize, index: usize, element: E) -> Result<(), Fault> {
         let at = self.lengths.within(place, index)?;
         let start = self.lengths.before(place);

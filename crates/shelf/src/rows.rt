@@ -1,18 +1,16 @@
 // The shelf with a row of 64 cells for each place.
-ghost use mathlib.Core.List.{[]};
-ghost use mathlib.Core.Path.{_≡_};
-ghost use Rattle·shelf·specs.Held.{«in-rows»};
+ghost use Rattle.std.specs.Prelude.{◌≡◌, []};
+ghost use Rattle.shelf.specs.Held.{in_rows};
+
 use crate::cells::Cells;
 pub use crate::cells::Rows;
 use crate::lengths::Lengths;
-use crate::traits::LONGEST;
-use crate::traits::ReadableShelf;
-use crate::traits::WritableShelf;
+use crate::traits::{LONGEST, ReadableShelf, WritableShelf};
 use model::signals::Fault;
 
 impl<'a, E> Rows<'a, E> {
     pub fn new(cells: Cells<'a, E>) -> Rows<'a, E>
-        ensures { λ r. ⌜ «in-rows» r ≡ (λ _. []) ⌝ }
+        ensures { in_rows result ≡ (λ _. []) }
     {
         let lent = cells.cells;
         let lengths = Lengths::new();
@@ -23,10 +21,10 @@ impl<'a, E> Rows<'a, E> {
     }
 }
 
-pub impl<'a, E: Copy> ReadableShelf for Rows<'a, E> as RowsRead {
+impl<'a, E: Copy> ReadableShelf for Rows<'a, E> {
     type Element = E;
 
-    ghost holds = { «in-rows» };
+    ghost holds = { in_rows };
 
     fn length(&mut self, place: usize) -> Result<usize, Fault> {
         self.lengths.of(place)
@@ -38,7 +36,7 @@ pub impl<'a, E: Copy> ReadableShelf for Rows<'a, E> as RowsRead {
     }
 }
 
-pub impl<'a, E: Copy> WritableShelf for Rows<'a, E> as RowsWrite {
+impl<'a, E: Copy> WritableShelf for Rows<'a, E> {
     fn replace(&mut self, place: usize, index: usize, element: E) -> Result<(), Fault> {
         let at = self.lengths.within(place, index)?;
         self.cells[LONGEST * (place - 1) + at] = element;

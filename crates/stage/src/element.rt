@@ -9,7 +9,7 @@ pub(crate) trait Element: Copy + Clone + Display {
     fn read(word: &str) -> Result<Self, Wrong>;
 }
 
-pub(crate) impl Element for u16 as WordElement {
+impl Element for u16 {
     const BLANK: u16 = 0;
 
     fn read(word: &str) -> Result<u16, Wrong> {
@@ -30,7 +30,7 @@ fn looks_decimal(word: &str) -> bool {
     true
 }
 
-pub(crate) impl Element for f32 as FloatElement {
+impl Element for f32 {
     const BLANK: f32 = 0.0;
 
     fn read(word: &str) -> Result<f32, Wrong> {

@@ -1,17 +1,13 @@
 // The header lines, which choose the rule, the shelf and the element.
-ghost use Rattle·stage·specs.Script.{Rule-named, Shelf-named, Element-named};
-use crate::script::ElementName;
-use crate::script::Header;
-use crate::script::RuleName;
-use crate::script::ShelfName;
+ghost use Rattle.stage.specs.Script.{RuleNamed, ShelfNamed, ElementNamed};
+
+use crate::script::{ElementName, Header, RuleName, ShelfName};
 use crate::words::words;
-use crate::wrong::BadLine;
-use crate::wrong::Wrong;
-use crate::wrong::WrongFromAlloc;
+use crate::wrong::{BadLine, Wrong};
 use std::alloc::Global;
 
 fn rule_named(word: &str) -> Option<RuleName>
-    ensures { λ r. ⌜ Rule-named (now (word .entry)) r ⌝ }
+    ensures { RuleNamed word.now result }
 {
     match word {
         "bits" => Some(RuleName::Bits),
@@ -21,7 +17,7 @@ fn rule_named(word: &str) -> Option<RuleName>
 }
 
 fn shelf_named(word: &str) -> Option<ShelfName>
-    ensures { λ r. ⌜ Shelf-named (now (word .entry)) r ⌝ }
+    ensures { ShelfNamed word.now result }
 {
     match word {
         "rows" => Some(ShelfName::Rows),
@@ -31,7 +27,7 @@ fn shelf_named(word: &str) -> Option<ShelfName>
 }
 
 fn element_named(word: &str) -> Option<ElementName>
-    ensures { λ r. ⌜ Element-named (now (word .entry)) r ⌝ }
+    ensures { ElementNamed word.now result }
 {
     match word {
         "words" => Some(ElementName::Words),

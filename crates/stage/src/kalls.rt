@@ -1,7 +1,6 @@
 // The kalls, by their names and arguments.
 use crate::number::number;
 use crate::wrong::Wrong;
-use crate::wrong::WrongFromRefused;
 use model::kinds::Kall;
 use std::alloc::Global;
 

@@ -2,13 +2,9 @@
 use crate::element::Element;
 use crate::kalls::read_kall;
 use crate::number::number;
-use crate::script::Buffer;
-use crate::script::Command;
+use crate::script::{Buffer, Command};
 use crate::wrong::Wrong;
-use crate::wrong::WrongFromRefused;
-use model::kinds::Form;
-use model::kinds::Owner;
-use model::kinds::Request;
+use model::kinds::{Form, Owner, Request};
 use std::alloc::Global;
 
 #[derive(Drop)]

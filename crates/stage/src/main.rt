@@ -1,4 +1,5 @@
 // Plays a scene script from standard input, and prints what was done.
+#![tactic(auto)]
 mod element;
 mod header;
 mod kalls;
@@ -12,51 +13,34 @@ mod words;
 mod wrong;
 
 use crate::element::Element;
-use crate::element::FloatElement;
-use crate::element::WordElement;
 use crate::header::header;
 use crate::parse::parse;
 use crate::play::play_script;
 use crate::print::print_script;
-use crate::script::ElementName;
-use crate::script::Header;
-use crate::script::RuleName;
-use crate::script::Script;
-use crate::script::ShelfName;
+use crate::script::{ElementName, Header, RuleName, Script, ShelfName};
 use crate::wrong::Stop;
-use crate::wrong::StopDisplay;
-use crate::wrong::StopFromAlloc;
-use crate::wrong::StopFromBadLine;
-use crate::wrong::StopFromFault;
-use crate::wrong::StopFromIo;
 use scene::opened::Reckoning;
 use shelf::cells::Cells;
 use shelf::packed::Packed;
-use shelf::packed::PackedRead;
-use shelf::packed::PackedWrite;
 use shelf::rows::Rows;
-use shelf::rows::RowsRead;
-use shelf::rows::RowsWrite;
 use std::io;
-use std::io::BufWriter;
-use std::io::Read;
-use std::io::Write;
+use std::io::{BufWriter, Read, Write};
 
 const CELLS: usize = 10240;
 
 fn print_out<E: Element>(
-    rt: &LibcRuntime,
+    rt: &HostRuntime,
     script: &Script<E>,
     reckoning: &Reckoning,
 ) -> io::Result<()> {
-    let mut out = BufWriter::new(rt.stdout());
+    let mut out = BufWriter::new(rt.alloc(), rt.stdout())?;
     print_script(&mut out, script, reckoning)?;
     out.flush()
 }
 
 // Plays the lines after the header over elements of one type.
 fn play_over<E: Element>(
-    rt: &LibcRuntime,
+    rt: &HostRuntime,
     header: Header,
     text: &str,
     lines: usize,
@@ -74,7 +58,7 @@ fn play_over<E: Element>(
     Ok(())
 }
 
-fn play_input(rt: &LibcRuntime) -> Result<(), Stop> {
+fn play_input(rt: &HostRuntime) -> Result<(), Stop> {
     let heap = rt.alloc();
     let mut bytes = Vec::new(heap);
     let mut input = rt.stdin();
@@ -89,11 +73,11 @@ fn play_input(rt: &LibcRuntime) -> Result<(), Stop> {
     }
 }
 
-fn main(rt: LibcRuntime) -> Result<(), Stop> {
+fn main(rt: HostRuntime) -> Result<(), Stop> {
     match play_input(&rt) {
         Ok(()) => Ok(()),
         Err(stop) => {
-            let _ = eprintln!(rt, "{stop}");
+            let _ = eprintln!(rt; "{stop}");
             Err(stop)
         }
     }

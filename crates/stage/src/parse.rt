@@ -1,15 +1,9 @@
 // A script from its text, checked whole.
 use crate::element::Element;
-use crate::line::Line;
-use crate::line::read_line;
-use crate::script::Command;
-use crate::script::Script;
-use crate::script::Step;
+use crate::line::{Line, read_line};
+use crate::script::{Command, Script, Step};
 use crate::words::words;
-use crate::wrong::BadLine;
-use crate::wrong::Wrong;
-use crate::wrong::WrongFromAlloc;
-use crate::wrong::WrongFromRefused;
+use crate::wrong::{BadLine, Wrong};
 use model::kinds::Request;
 use std::alloc::Global;
 
@@ -43,12 +37,10 @@ fn add_command<E: Drop>(
     command: Command<E>,
 ) -> Result<Part, Wrong> {
     in_set_up(part)?;
-    script
-        .steps
-        .push(Step {
-            command,
-            answer: None,
-        })?;
+    script.steps.push(Step {
+        command,
+        answer: None,
+    })?;
     Ok(part)
 }
 

@@ -1,18 +1,13 @@
 // A script played from set-up to reckoning.
-use crate::script::Command;
-use crate::script::RuleName;
-use crate::script::Script;
+use crate::script::{Command, RuleName, Script};
 use model::signals::Fault;
 use rights::bits::Bits;
-use rights::bits::BitsRule;
 use rights::rule::RightsRule;
 use rights::steps::Steps;
-use rights::steps::StepsRule;
 use run::play::play;
 use scene::opened::Reckoning;
 use scene::setup::SetUp;
-use shelf::traits::ReadableShelf;
-use shelf::traits::WritableShelf;
+use shelf::traits::{ReadableShelf, WritableShelf};
 
 fn prepare<R: RightsRule, S: WritableShelf>(
     set_up: &mut SetUp<R>,

@@ -1,16 +1,11 @@
 // What a played script prints: a line for each command.
-use crate::script::Command;
-use crate::script::Script;
-use crate::script::Step;
-use model::kinds::Kall;
-use model::kinds::Request;
-use model::signals::Fault;
-use model::signals::Signal;
+use crate::script::{Command, Script, Step};
+use model::kinds::{Kall, Request};
+use model::signals::{Fault, Signal};
 use scene::opened::Reckoning;
-use std::fmt;
 use std::fmt::Display;
-use std::io;
 use std::io::Write;
+use std::{fmt, io};
 
 fn signal_name(signal: Signal) -> &'static str {
     match signal {
@@ -65,7 +60,7 @@ fn command_name<E>(command: &Command<E>) -> &'static str {
 #[derive(Clone, Copy)]
 struct Shown<T>(Option<Result<T, Fault>>);
 
-impl<T: Display + Copy> Display for Shown<T> as ShownDisplay {
+impl<T: Display + Copy> Display for Shown<T> {
     fn fmt<W: fmt::Write>(&self, f: &mut fmt::Formatter<W>) -> fmt::Result {
         match self.0 {
             Some(Ok(value)) => write!(f, "{value}"),

@@ -1,7 +1,5 @@
 // What a scene script says, once it is read.
-use model::kinds::Form;
-use model::kinds::Owner;
-use model::kinds::Request;
+use model::kinds::{Form, Owner, Request};
 use model::signals::Fault;
 
 #[derive(Clone, Copy)]

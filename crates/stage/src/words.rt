@@ -1,6 +1,5 @@
 // The words of a line.
-use std::alloc::AllocError;
-use std::alloc::Global;
+use std::alloc::{AllocError, Global};
 
 fn before_comment(line: &str) -> &str {
     match line.split_once('#') {

@@ -1,9 +1,7 @@
 // Why a script is not played.
 use model::signals::Fault;
-use std::alloc::AllocError;
-use std::alloc::Refused;
-use std::fmt;
-use std::io;
+use std::alloc::{AllocError, AllocFailed};
+use std::{fmt, io};
 
 #[derive(Clone, Copy)]
 pub(crate) enum Wrong {
@@ -28,14 +26,14 @@ pub(crate) struct BadLine {
     pub(crate) wrong: Wrong,
 }
 
-pub(crate) impl From<AllocError> for Wrong as WrongFromAlloc {
+impl From<AllocError> for Wrong {
     fn from(_e: AllocError) -> Wrong {
         Wrong::Memory
     }
 }
 
-pub(crate) impl<T: Drop> From<Refused<T>> for Wrong as WrongFromRefused {
-    fn from(_e: Refused<T>) -> Wrong {
+impl<T: Drop> From<AllocFailed<T>> for Wrong {
+    fn from(_e: AllocFailed<T>) -> Wrong {
         Wrong::Memory
     }
 }
@@ -58,7 +56,7 @@ fn words(wrong: Wrong) -> &'static str {
     }
 }
 
-pub(crate) impl fmt::Display for BadLine as BadLineDisplay {
+impl fmt::Display for BadLine {
     fn fmt<W: fmt::Write>(&self, f: &mut fmt::Formatter<W>) -> fmt::Result {
         let line = self.line;
         let what = words(self.wrong);
@@ -75,31 +73,31 @@ pub(crate) enum Stop {
     Cells,
 }
 
-pub(crate) impl From<BadLine> for Stop as StopFromBadLine {
+impl From<BadLine> for Stop {
     fn from(bad: BadLine) -> Stop {
         Stop::Script(bad)
     }
 }
 
-pub(crate) impl From<io::Error> for Stop as StopFromIo {
+impl From<io::Error> for Stop {
     fn from(error: io::Error) -> Stop {
         Stop::Io(error)
     }
 }
 
-pub(crate) impl From<AllocError> for Stop as StopFromAlloc {
+impl From<AllocError> for Stop {
     fn from(_e: AllocError) -> Stop {
         Stop::Memory
     }
 }
 
-pub(crate) impl From<Fault> for Stop as StopFromFault {
+impl From<Fault> for Stop {
     fn from(_fault: Fault) -> Stop {
         Stop::Cells
     }
 }
 
-pub(crate) impl fmt::Display for Stop as StopDisplay {
+impl fmt::Display for Stop {
     fn fmt<W: fmt::Write>(&self, f: &mut fmt::Formatter<W>) -> fmt::Result {
         match self {
             Stop::Script(bad) => write!(f, "{bad}"),

@@ -1,37 +1,28 @@
 // The kalls that put a slot of the name space elsewhere, or restrict it in place.
-ghost use mathlib.Core.Path.{_≡_};
-ghost use Rattle·model.specs.Kalls.{is-just, leaving, kall-store, kall-append, kall-passappend};
-ghost use Rattle·objects.specs.Abstract.{Does};
-use model::kinds::Change;
-use model::kinds::EMPTY;
-use model::kinds::Holder;
-use model::rights::APPRTS;
-use model::rights::DLTRTS;
-use model::rights::ENVRTS;
-use model::rights::MDFYRTS;
-use model::rights::STORTS;
+ghost use Rattle.std.specs.Prelude.{◌≡◌};
+ghost use Rattle.model.specs.Kalls.{is_just, leaving, kall_store, kall_append, kall_passappend};
+ghost use Rattle.objects.specs.Abstract.{Does};
+
+use model::kinds::{Change, EMPTY, Holder};
+use model::rights::{APPRTS, DLTRTS, ENVRTS, MDFYRTS, STORTS};
 use model::signals::Fault;
 use paths::recode::changed;
-use paths::slots::enter;
-use paths::slots::held;
-use paths::slots::object_at;
-use paths::walk::WRITING;
-use paths::walk::walk;
+use paths::slots::{enter, held, object_at};
+use paths::walk::{WRITING, walk};
 use rights::rule::RightsRule;
-use scene::opened::Scene;
-use scene::opened::Slip;
+use scene::opened::{Scene, Slip};
 use shelf::traits::ReadableShelf;
 
 // The path is the one index.
 fn is_just(index: u32, path: &[u32]) -> bool
-    ensures { λ r. ⌜ r ≡ is-just index (now (path .entry)) ⌝ }
+    ensures { result ≡ is_just index path.now }
 {
     path.len() == 1 && path[0] == index
 }
 
 // What a slot must grant to leave the name space by the path.
 fn leaving(path: &[u32]) -> &'static [u8]
-    ensures { λ r. ⌜ now r ≡ leaving (now (path .entry)) ⌝ }
+    ensures { result.now ≡ leaving path.now }
 {
     if path.len() == 1 { &[] } else { &[ENVRTS] }
 }
@@ -46,7 +37,7 @@ pub fn store<R: RightsRule, S: ReadableShelf>(
     cur: u32,
     mask: Option<u32>,
 ) -> Result<i32, Fault>
-    ensures { λ r. ⌜ Does process (kall-store (R·RightsRule .rule) process (now (path .entry)) cur mask) (now (scene .entry) .tables) (S·ReadableShelf .holds (now («_shelf» .entry))) (now (scene .exit) .tables) (S·ReadableShelf .holds (now («_shelf» .exit))) r ⌝ }
+    ensures { Does process (kall_store R.RightsRule.rule process path.now cur mask) scene.old.tables (S.ReadableShelf.holds _shelf.old) scene.new.tables (S.ReadableShelf.holds _shelf.new) result }
 {
     enter(scene, process, mask, path.len())?;
     if is_just(cur, path) {
@@ -77,7 +68,7 @@ pub fn append<R: RightsRule, S: ReadableShelf>(
     cur: u32,
     mask: Option<u32>,
 ) -> Result<i32, Fault>
-    ensures { λ r. ⌜ Does process (kall-append (R·RightsRule .rule) process (now (path .entry)) cur mask) (now (scene .entry) .tables) (S·ReadableShelf .holds (now («_shelf» .entry))) (now (scene .exit) .tables) (S·ReadableShelf .holds (now («_shelf» .exit))) r ⌝ }
+    ensures { Does process (kall_append R.RightsRule.rule process path.now cur mask) scene.old.tables (S.ReadableShelf.holds _shelf.old) scene.new.tables (S.ReadableShelf.holds _shelf.new) result }
 {
     enter(scene, process, mask, path.len())?;
     let slot = held(scene, &[ENVRTS], process, Holder::Mine, cur, 0)?;
@@ -108,7 +99,7 @@ pub fn passappend<R: RightsRule, S: ReadableShelf>(
     cur: u32,
     mask: Option<u32>,
 ) -> Result<i32, Fault>
-    ensures { λ r. ⌜ Does process (kall-passappend (R·RightsRule .rule) process (now (path .entry)) cur mask) (now (scene .entry) .tables) (S·ReadableShelf .holds (now («_shelf» .entry))) (now (scene .exit) .tables) (S·ReadableShelf .holds (now («_shelf» .exit))) r ⌝ }
+    ensures { Does process (kall_passappend R.RightsRule.rule process path.now cur mask) scene.old.tables (S.ReadableShelf.holds _shelf.old) scene.new.tables (S.ReadableShelf.holds _shelf.new) result }
 {
     enter(scene, process, mask, path.len())?;
     let slot = held(scene, &[ENVRTS, DLTRTS], process, Holder::Mine, cur, 0)?;

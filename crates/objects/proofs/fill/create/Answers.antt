@@ -1,23 +1,22 @@
-use mathlib.Core.Path.{_≡_, refl, ap, _∙_}
-use Rattle·std.specs.declared.result.Result.the-variants.{Err}
-use Rattle·objects·specs.Abstract.{frame}
-use Rattle·objects·proofs.Creating.{created, not-filled, not-made, over-long}
-use Rattle·objects·proofs.fill.create.Needs as need
+use Rattle.std.proofs.Common.{◌≡◌, Err, refl, ap, ◌∙◌}
+use Rattle.objects.specs.Abstract.{frame}
+use Rattle.objects.proofs.Creating.{created, not_filled, not_made, over_long}
+use Rattle.objects.proofs.fill.create.Goals as goal
 
-pub returns-then-elements-gt64 : need.returns-then-elements-gt64
+pub returns-then-elements-gt64 : goal.returns-then-elements-gt64
 returns-then-elements-gt64 g c =
-    (ap Err (c .new .ensures) ∙ over-long (c .args .share) (c .args .elements .now) (frame (c .args .tables .now)) (c .if-elements-gt64 .taken), refl)
+    (ap Err c.new.ensures ∙ over_long c.args.share c.args.elements.now (frame c.args.tables.now) c.if-elements-gt64.true, refl)
 
-pub returns-in-Break-spot : need.returns-in-Break-spot
-returns-in-Break-spot g c =
-    not-made (c .args .tables .now) (c .make .last .self) _ _ (c .args .share) (c .args .kind) (c .args .elements .now) (c .if-elements-gt64 .left) _ _ (c .from-residual .ensures .1) (c .in-Break-spot .ensures tt) refl
+pub returns-in-err-spot : goal.returns-in-err-spot
+returns-in-err-spot g c =
+    not_made c.args.tables.now c.make.new.self _ _ c.args.share c.args.kind c.args.elements.now c.if-elements-gt64.false _ _ c.from-residual.ensures.1 c.in-err-spot.ensures refl
 
-pub returns-in-Break-fill : need.returns-in-Break-fill
-returns-in-Break-fill g c =
-    absurd (not-filled (c .args .tables .now) (c .make .last .self) (g .S·ReadableShelf .holds (c .args .shelf .now)) (g .S·ReadableShelf .holds (c .args .shelf .now)) (c .args .share) (c .args .kind) (c .args .elements .now) (c .if-elements-gt64 .left) (c .in-Continue-spot .spot) _
-    (c .in-Continue-spot .ensures tt) (c .in-Break-fill .ensures tt .0))
+pub returns-in-err-fill : goal.returns-in-err-fill
+returns-in-err-fill g c =
+    absurd (not_filled c.args.tables.now c.make.new.self (g.S.ReadableShelf.holds c.args.shelf.now) (g.S.ReadableShelf.holds c.args.shelf.now) c.args.share c.args.kind c.args.elements.now c.if-elements-gt64.false c.in-ok-spot.spot _
+    c.in-ok-spot.ensures c.in-err-fill.ensures.0)
 
-pub returns : need.returns
+pub returns : goal.returns
 returns g c =
-    created (c .args .tables .now) (c .make .last .self) (g .S·ReadableShelf .holds (c .args .shelf .now)) (g .S·ReadableShelf .holds (c .fill .last .shelf)) (c .args .share) (c .args .kind) (c .args .elements .now) (c .if-elements-gt64 .left) (c .in-Continue-spot .spot)
-    (c .in-Continue-spot .ensures tt) (c .in-Continue-fill .ensures tt)
+    created c.args.tables.now c.make.new.self (g.S.ReadableShelf.holds c.args.shelf.now) (g.S.ReadableShelf.holds c.fill.new.shelf) c.args.share c.args.kind c.args.elements.now c.if-elements-gt64.false c.in-ok-spot.spot
+    c.in-ok-spot.ensures c.in-ok-fill.ensures

@@ -1,38 +1,35 @@
-use mathlib.Core.Path.{_≡_, refl, sym, ap, _∙_}
-use Prim.Native.Nat.{_≤_}
-use native.Mathlib.Omega.{arith}
-use Rattle·std.specs.declared.result.Result.the-variants.{Ok, Err}
-use Rattle·objects·proofs.Filling.{too-long, no-place, emptied, one-more, no-refusal, all-there, refused}
-use Rattle·objects·proofs.fill.fill.Needs as need
+use Rattle.std.proofs.Common.{◌≡◌, ◌≤◌, Ok, Err, sym, refl, ap, ◌∙◌, arith}
+use Rattle.objects.proofs.Filling.{too_long, no_place, emptied, one_more, no_refusal, all_there, refused}
+use Rattle.objects.proofs.fill.fill.Goals as goal
 
-pub returns-then-elements-gt64 : need.returns-then-elements-gt64
+pub returns-then-elements-gt64 : goal.returns-then-elements-gt64
 returns-then-elements-gt64 g c =
-    (ap Err (c .new .ensures) ∙ too-long (c .args .place) (g .S·ReadableShelf .holds (c .args .shelf .now)) (c .args .elements .now) (c .if-elements-gt64 .taken), refl)
+    (ap Err c.new.ensures ∙ too_long c.args.place (g.S.ReadableShelf.holds c.args.shelf.now) c.args.elements.now c.if-elements-gt64.true, refl)
 
-pub returns-in-Break-clear : need.returns-in-Break-clear
-returns-in-Break-clear g c =
-    refused _ (c .in-Break-clear .field-0 .0) _ _ _ (c .from-residual .ensures .1)
-    (no-place (c .args .place) (g .S·ReadableShelf .holds (c .args .shelf .now)) (c .args .elements .now) _ (c .in-Break-clear .ensures tt .0))
-    (c .in-Break-clear .ensures tt .1)
+pub returns-in-err-clear : goal.returns-in-err-clear
+returns-in-err-clear g c =
+    refused _ c.in-err-clear.field-0.0 _ _ _ c.from-residual.ensures.1
+    (no_place c.args.place (g.S.ReadableShelf.holds c.args.shelf.now) c.args.elements.now _ c.in-err-clear.ensures.0)
+    c.in-err-clear.ensures.1
 
-pub loop-element-holds : need.loop-element-holds
-loop-element-holds g c = emptied (c .args .place) (g .S·ReadableShelf .holds (c .args .shelf .now)) (g .S·ReadableShelf .holds (c .clear .last .self)) (c .in-Continue-clear .ensures tt)
+pub loop-element-init : goal.loop-element-init
+loop-element-init g c = emptied c.args.place (g.S.ReadableShelf.holds c.args.shelf.now) (g.S.ReadableShelf.holds c.clear.new.self) c.in-ok-clear.ensures
 
-pub returns-in-Break-append : need.returns-in-Break-append
-returns-in-Break-append g c =
-    absurd (no-refusal (c .args .place) (g .S·ReadableShelf .holds (c .clear .last .self)) (c .args .elements .now) (c .loop-element .element-index) (c .element-item .result)
-    (c .loop-element .inv .0) (c .if-elements-gt64 .left) (c .loop-element-test .taken) (sym (c .element-item .is))
-    (g .S·ReadableShelf .holds (c .loop-element .shelf)) (c .loop-element .inv .1) _ (c .in-Break-append .ensures tt .0))
+pub returns-in-err-append : goal.returns-in-err-append
+returns-in-err-append g c =
+    absurd (no_refusal c.args.place (g.S.ReadableShelf.holds c.clear.new.self) c.args.elements.now c.loop-element.element-index c.element-item.result
+    c.loop-element.invariant.0 c.if-elements-gt64.false c.loop-element-test.true (sym c.element-item.is)
+    (g.S.ReadableShelf.holds c.loop-element.shelf) c.loop-element.invariant.1 _ c.in-err-append.ensures.0)
 
-pub loop-element-again : need.loop-element-again
-loop-element-again g c = (
-  c .loop-element .inv .0,
-  one-more (c .args .place) (g .S·ReadableShelf .holds (c .clear .last .self)) (c .args .elements .now) (c .loop-element .element-index) (c .element-item .result)
-      (c .loop-element .inv .0) (c .if-elements-gt64 .left) (c .loop-element-test .taken) (sym (c .element-item .is))
-      (g .S·ReadableShelf .holds (c .loop-element .shelf)) (c .loop-element .inv .1) _ (c .in-Continue-append .ensures tt),
+pub loop-element-preserved : goal.loop-element-preserved
+loop-element-preserved g c = (
+  c.loop-element.invariant.0,
+  one_more c.args.place (g.S.ReadableShelf.holds c.clear.new.self) c.args.elements.now c.loop-element.element-index c.element-item.result
+      c.loop-element.invariant.0 c.if-elements-gt64.false c.loop-element-test.true (sym c.element-item.is)
+      (g.S.ReadableShelf.holds c.loop-element.shelf) c.loop-element.invariant.1 _ c.in-ok-append.ensures,
 )
 
-pub returns : need.returns
+pub returns : goal.returns
 returns g c =
-    all-there (c .args .place) (g .S·ReadableShelf .holds (c .args .shelf .now)) (c .args .elements .now) (c .loop-element .element-index) (g .S·ReadableShelf .holds (c .clear .last .self)) _
-    (c .in-Continue-clear .ensures tt) (c .if-elements-gt64 .left) (omega arith) (c .loop-element .inv .1)
+    all_there c.args.place (g.S.ReadableShelf.holds c.args.shelf.now) c.args.elements.now c.loop-element.element-index (g.S.ReadableShelf.holds c.clear.new.self) _
+    c.in-ok-clear.ensures c.if-elements-gt64.false (omega arith) c.loop-element.invariant.1

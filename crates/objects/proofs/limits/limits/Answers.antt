@@ -1,24 +1,24 @@
-use native.Mathlib.Omega.{arith}
-use Rattle·std.proofs.shelf.Ways.{tells}
-use Rattle·model.specs.Plan.{limits}
-use Rattle·objects·proofs.limits.limits.Needs as need
+use Rattle.std.proofs.Common.{arith}
+use Rattle.std.proofs.lemmas.Bool.Decides.{nat_tests}
+use Rattle.model.specs.Plan.{limits}
+use Rattle.objects.proofs.limits.limits.Goals as goal
 
-pub returns-then-k-eq-DATA : need.returns-then-k-eq-DATA
+pub returns-then-k-eq-DATA : goal.returns-then-k-eq-DATA
 unfolding limits
-returns-then-k-eq-DATA c = grind (arith, tells)
+returns-then-k-eq-DATA c = grind (arith, nat_tests)
 
-pub returns-then-k-eq-PROCEDURE : need.returns-then-k-eq-PROCEDURE
+pub returns-then-k-eq-PROCEDURE : goal.returns-then-k-eq-PROCEDURE
 unfolding limits
-returns-then-k-eq-PROCEDURE c = grind (arith, tells)
+returns-then-k-eq-PROCEDURE c = grind (arith, nat_tests)
 
-pub returns-in-rest-3 : need.returns-in-rest-3
+pub returns-in-default-3 : goal.returns-in-default-3
 unfolding limits
-returns-in-rest-3 c = grind (arith, tells)
+returns-in-default-3 c = grind (arith, nat_tests)
 
-pub returns-in-2 : need.returns-in-2
+pub returns-in-2 : goal.returns-in-2
 unfolding limits
-returns-in-2 c = grind (arith, tells)
+returns-in-2 c = grind (arith, nat_tests)
 
-pub returns-in-2·2 : need.returns-in-2·2
+pub returns-in-2·2 : goal.returns-in-2·2
 unfolding limits
-returns-in-2·2 c = grind (arith, tells)
+returns-in-2·2 c = grind (arith, nat_tests)

@@ -1,7 +1,6 @@
-use mathlib.Core.Path.{_≡_, sym}
-use borrow.Author.Needs.{needs}
-use Rattle·objects·proofs.Few.{few-slots}
-use Rattle·objects·proofs.limits.room.Needs as need
+use Rattle.std.proofs.Common.{◌≡◌, sym, rules}
+use Rattle.objects.proofs.Few.{few_slots}
+use Rattle.objects.proofs.limits.room.Goals as goal
 
-pub returns-in-Ok : need.returns-in-Ok
-returns-in-Ok c = record { value = search needs; bound = few-slots (c .args .kind) (c .in-Ok .limits) (c .in-Ok .ensures tt) }
+pub returns-in-Ok : goal.returns-in-Ok
+returns-in-Ok c = record { value = search rules; bound = few_slots c.args.kind c.in-Ok.limits c.in-Ok.ensures }

@@ -1,23 +1,19 @@
-use mathlib.Core.Path.{_≡_, refl, sym, ap, _∙_}
-use Prim.Native.Nat.{_≤_}
-use native.Mathlib.Omega.{arith}
-use borrow.Author.Needs.{needs}
-use lib.ListN.{length}
-use Rattle·std.proofs.shelf.Lists.{take-all}
-use Rattle·model.specs.Plan.{last-filled}
-use Rattle·objects·proofs.Filled.{past-empty, past-filled}
-use Rattle·objects·proofs.objects.last_filled.Needs as need
-use Rattle·objects·proofs.objects.last_filled.Needs.{in-Empty, in-rest}
+use Rattle.std.proofs.Common.{◌≡◌, ◌≤◌, length, sym, refl, ap, ◌∙◌, arith, rules}
+use Rattle.std.proofs.lemmas.List.{take_all}
+use Rattle.model.specs.Plan.{last_filled}
+use Rattle.objects.proofs.Filled.{past_empty, past_filled}
+use Rattle.objects.proofs.objects.last_filled.Goals as goal
+use Rattle.objects.proofs.objects.last_filled.Goals.{in-Empty, in-default}
 
-pub loop-i-holds : need.loop-i-holds
-unfolding last-filled
-loop-i-holds c = (refl, omega arith)
+pub loop-i-init : goal.loop-i-init
+unfolding last_filled
+loop-i-init c = (refl, omega arith)
 
-pub loop-i-again : need.loop-i-again
-loop-i-again c = elim (c .match-slot .came) [
-  | in-Empty w ↦ (w .last-is ∙ c .loop-i .inv .0 ∙ sym (past-empty _ _ (c .loop-i-test .taken) (w .in-Empty .is)), omega (arith, w .last-is, c .loop-i .inv .1))
-  | in-rest w ↦ (w .last-is ∙ sym (past-filled _ _ (c .loop-i-test .taken) (w .in-rest .not-Empty)), omega (arith, w .last-is))
+pub loop-i-preserved : goal.loop-i-preserved
+loop-i-preserved c = elim c.match-slot.branch [
+  | in-Empty w ↦ (w.last-is ∙ c.loop-i.invariant.0 ∙ sym (past_empty _ _ c.loop-i-test.true w.in-Empty.is), omega (arith, w.last-is, c.loop-i.invariant.1))
+  | in-default w ↦ (w.last-is ∙ sym (past_filled _ _ c.loop-i-test.true w.in-default.not-Empty), omega (arith, w.last-is))
 ]
 
-pub returns : need.returns
-returns c = record { value = c .loop-i .inv .0 ∙ ap last-filled (take-all _ _ (c .loop-i-test .left)); bound = omega (arith, c .loop-i .inv .1) }
+pub returns : goal.returns
+returns c = record { value = c.loop-i.invariant.0 ∙ ap last_filled (take_all _ _ c.loop-i-test.false); bound = omega (arith, c.loop-i.invariant.1) }

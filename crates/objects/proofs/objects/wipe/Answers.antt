@@ -1,16 +1,13 @@
-use mathlib.Core.Path.{_≡_, refl, sym, ap, _∙_}
-use Prim.Native.Nat.{ℕ, _+_, _-_, _*_}
-use native.Mathlib.Omega.{arith}
-use borrow.Author.Needs.{needs}
-use Rattle·objects·specs.Abstract.{wiped}
-use Rattle·objects·proofs.Making.{wiped-step, wiped-end}
-use Rattle·objects·proofs.objects.wipe.Needs as need
+use Rattle.std.proofs.Common.{◌≡◌, ℕ, ◌+◌, ◌-◌, ◌*◌, sym, refl, ap, ◌∙◌, arith, rules}
+use Rattle.objects.specs.Abstract.{wiped}
+use Rattle.objects.proofs.Making.{wiped_step, wiped_end}
+use Rattle.objects.proofs.objects.wipe.Goals as goal
 
-pub loop-i-holds : need.loop-i-holds
-loop-i-holds c = let e : 8 * c .args .place + 0 ≡ 8 * c .args .place = omega arith in rw e
+pub loop-i-init : goal.loop-i-init
+loop-i-init c = let e : 8 * c.args.place + 0 ≡ 8 * c.args.place = omega arith in rw e
 
-pub loop-i-again : need.loop-i-again
-loop-i-again c = sym (wiped-step (c .loop-i .slots) (8 * c .args .place) (c .loop-i .i) (omega arith)) ∙ c .loop-i .inv
+pub loop-i-preserved : goal.loop-i-preserved
+loop-i-preserved c = sym (wiped_step c.loop-i.slots (8 * c.args.place) c.loop-i.i (omega arith)) ∙ c.loop-i.invariant
 
-pub returns : need.returns
-returns c = sym (wiped-end _ _ _ (omega arith)) ∙ c .loop-i .inv
+pub returns : goal.returns
+returns c = sym (wiped_end _ _ _ (omega arith)) ∙ c.loop-i.invariant

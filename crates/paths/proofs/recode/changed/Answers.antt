@@ -1,15 +1,15 @@
-use borrow.Author.Needs.{needs}
-use Rattle·model.specs.Kalls.{changed}
-use Rattle·paths·proofs.recode.changed.Needs as need
+use Rattle.std.proofs.Common.{rules}
+use Rattle.model.specs.Kalls.{changed}
+use Rattle.paths.proofs.recode.changed.Goals as goal
 
-pub returns-in-Empty : need.returns-in-Empty
+pub returns-in-Empty : goal.returns-in-Empty
 unfolding changed
-returns-in-Empty g c = search needs
+returns-in-Empty g c = search rules
 
-pub returns-in-Capability : need.returns-in-Capability
+pub returns-in-Capability : goal.returns-in-Capability
 unfolding changed
-returns-in-Capability g c = search needs
+returns-in-Capability g c = search rules
 
-pub returns-in-Template : need.returns-in-Template
+pub returns-in-Template : goal.returns-in-Template
 unfolding changed
-returns-in-Template g c = search needs
+returns-in-Template g c = search rules

@@ -1,18 +1,16 @@
-use mathlib.Core.Path.{_≡_, refl, sym, ap, _∙_}
-use native.Mathlib.Omega.{arith}
-use borrow.Author.Needs.{needs}
-use Rattle·std.proofs.shelf.Ways.{tells}
-use Rattle·model.specs.Plan.{enter}
-use Rattle·paths·proofs.slots.enter.Needs as need
+use Rattle.std.proofs.Common.{◌≡◌, sym, refl, ap, ◌∙◌, arith, rules}
+use Rattle.std.proofs.lemmas.Bool.Decides.{nat_tests}
+use Rattle.model.specs.Plan.{enter}
+use Rattle.paths.proofs.slots.enter.Goals as goal
 
-pub returns-in-Break-running : need.returns-in-Break-running
+pub returns-in-err-running : goal.returns-in-err-running
 unfolding enter
-returns-in-Break-running g c = search needs
+returns-in-err-running g c = search rules
 
-pub returns-in-Break-mask-ok : need.returns-in-Break-mask-ok
+pub returns-in-err-mask-ok : goal.returns-in-err-mask-ok
 unfolding enter
-returns-in-Break-mask-ok g c = search needs
+returns-in-err-mask-ok g c = search rules
 
-pub returns : need.returns
+pub returns : goal.returns
 unfolding enter
-returns g c = search needs
+returns g c = search rules

@@ -1,22 +1,20 @@
-use mathlib.Core.Path.{_≡_, refl, sym, ap, _∙_}
-use native.Mathlib.Omega.{arith}
-use borrow.Author.Needs.{needs}
-use Rattle·std.proofs.shelf.Ways.{tells}
-use Rattle·model.specs.Plan.{held}
-use Rattle·paths·proofs.slots.held.Needs as need
+use Rattle.std.proofs.Common.{◌≡◌, sym, refl, ap, ◌∙◌, arith, rules}
+use Rattle.std.proofs.lemmas.Bool.Decides.{nat_tests}
+use Rattle.model.specs.Plan.{held}
+use Rattle.paths.proofs.slots.held.Goals as goal
 
-pub returns-in-Break-slot : need.returns-in-Break-slot
+pub returns-in-err-slot : goal.returns-in-err-slot
 unfolding held
-returns-in-Break-slot g c = search needs
+returns-in-err-slot g c = search rules
 
-pub returns-in-Empty : need.returns-in-Empty
+pub returns-in-Empty : goal.returns-in-Empty
 unfolding held
-returns-in-Empty g c = search needs
+returns-in-Empty g c = search rules
 
-pub returns-then-not-grants-all : need.returns-then-not-grants-all
+pub returns-then-not-grants-all : goal.returns-then-not-grants-all
 unfolding held
-returns-then-not-grants-all g c = search needs
+returns-then-not-grants-all g c = search rules
 
-pub returns : need.returns
+pub returns : goal.returns
 unfolding held
-returns g c = search needs
+returns g c = search rules

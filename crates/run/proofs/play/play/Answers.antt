@@ -1,23 +1,23 @@
-use mathlib.Core.Path.{_≡_, ap, _∙_}
-use Rattle·model.specs.Model.{World}
-use Rattle·model.specs.SetUp.{reckoning}
-use Rattle·model.proofs.Whole.{isolates}
-use Rattle·objects.specs.declared.tables.Tables.{Tables}
-use Rattle·objects.specs.Abstract.{world, homes}
-use Rattle·run·specs.Play.{played, afterwards}
-use Rattle·run·proofs.play.play.Needs as need
+use Rattle.std.proofs.Common.{◌≡◌, ap, ◌∙◌}
+use Rattle.model.specs.Model.{World}
+use Rattle.model.specs.SetUp.{reckoning}
+use Rattle.model.proofs.Whole.{isolates}
+use Rattle.objects.specs.declared.tables.Tables.{Tables}
+use Rattle.objects.specs.Abstract.{world, homes}
+use Rattle.run.specs.Play.{played, afterwards}
+use Rattle.run.proofs.play.play.Goals as goal
 
-pub returns : need.returns
+pub returns : goal.returns
 returns g c =
-    let rule = g .R·RightsRule .rule in
-    let holds = g .S·ReadableShelf .holds (c .args .shelf .now) in
-    let up = c .args .set-up in
-    let asked = c .args .requests .now in
-    let after : world (c .serve-all .last .scene .tables) (g .S·ReadableShelf .holds (c .serve-all .last .shelf)) ≡ afterwards rule (world (up .tables) holds) asked =
-    c .serve-all .ensures .after ∙ ap (λ (t : Tables). afterwards rule (world t holds) asked) (c .open-scene .ensures) in
+    let rule = g.R.RightsRule.rule in
+    let holds = g.S.ReadableShelf.holds c.args.shelf.now in
+    let up = c.args.set-up in
+    let asked = c.args.requests.now in
+    let after : world c.serve-all.new.scene.tables (g.S.ReadableShelf.holds c.serve-all.new.shelf) ≡ afterwards rule (world up.tables holds) asked =
+    c.serve-all.ensures.after ∙ ap (λ (t : Tables). afterwards rule (world t holds) asked) c.open-scene.ensures in
     record {
-      answers = c .serve-all .ensures .answers ∙ ap (λ (t : Tables). played rule (world t holds) asked) (c .open-scene .ensures);
-      reckoned = c .reckon .ensures ∙ ap (λ (w : World (g .S·Element .Denot)). reckoning (w .frame)) after;
-      shelved = (homes (c .serve-all .last .scene .tables), λ n. ap (λ (w : World (g .S·Element .Denot)). w .elements n) after);
-      isolated = isolates rule (g .R·RightsRule·met .lawful) (world (up .tables) holds) (record { objects = up .objects; held = up .held; listed = up .listed }) _;
+      answers = c.serve-all.ensures.answers ∙ ap (λ (t : Tables). played rule (world t holds) asked) c.open-scene.ensures;
+      reckoned = c.reckon.ensures ∙ ap (λ (w : World g.row.S-Element.Denot). reckoning w.frame) after;
+      shelved = (homes c.serve-all.new.scene.tables, λ n. ap (λ (w : World g.row.S-Element.Denot). w.elements n) after);
+      isolated = isolates rule g.met.R.RightsRule.lawful (world up.tables holds) (record { objects = up.objects; held = up.held; listed = up.listed }) _;
     }

@@ -1,32 +1,29 @@
-use mathlib.Core.Path.{_≡_, refl, sym, ap, _∙_}
-use borrow.Author.Needs.{needs}
-use lib.ListN.{length}
-use Rattle·std.specs.declared.result.Result.the-variants.{Ok, Err}
-use Rattle·objects·proofs.Bodies.{object-none, object-some}
-use Rattle·objects·proofs.Ending.{end-frame, end-homes, end-bounded, end-distinct}
-use Rattle·objects·proofs.tables.Tables.end.Needs as need
+use Rattle.std.proofs.Common.{◌≡◌, length, Ok, Err, sym, refl, ap, ◌∙◌, rules}
+use Rattle.objects.proofs.Bodies.{object_none, object_some}
+use Rattle.objects.proofs.Ending.{end_frame, end_homes, end_bounded, end_distinct}
+use Rattle.objects.proofs.tables.Tables.end.Goals as goal
 
-pub returns-in-rest : need.returns-in-rest
-returns-in-rest c = (rw (object-none (c .args .self .now .objects) (c .args .self .now .slots) (c .args .name) (c .in-rest .ensures tt .value)) (ap Err (c .new .ensures)), refl, refl)
+pub returns-in-default : goal.returns-in-default
+returns-in-default c = (rw (object_none c.args.self.now.objects c.args.self.now.slots c.args.name c.in-default.ensures.value) (ap Err c.new.ensures), refl, refl)
 
-pub ghost-self : need.ghost-self
-ghost-self c =
-    let t = c .args .self .now in
-    let long : length (c .args .self .now .objects) ≡ 160 = search needs in
-    let found = c .in-Some .ensures tt in (
-      end-bounded (t .objects) (t .slots) (t .given) (c .args .name) (c .in-Some .place) _ refl (found .value) (t .distinct) long (found .within) (t .bounded),
+pub invariant-of-self : goal.invariant-of-self
+invariant-of-self c =
+    let t = c.args.self.now in
+    let long : length c.args.self.now.objects ≡ 160 = search rules in
+    let found = c.in-Some.ensures in (
+      end_bounded t.objects t.slots t.given c.args.name c.in-Some.place _ refl found.value t.distinct long found.within t.bounded,
       (
-        end-distinct (t .objects) (t .slots) (t .given) (c .args .name) (c .in-Some .place) _ refl (found .value) (t .distinct) long (found .within),
-        (t .deep, (t .shelved, tt)),
+        end_distinct t.objects t.slots t.given c.args.name c.in-Some.place _ refl found.value t.distinct long found.within,
+        (t.deep, (t.shelved, tt)),
       ),
     )
 
-pub returns : need.returns
+pub returns : goal.returns
 returns c =
-    let t = c .args .self .now in
-    let long : length (c .args .self .now .objects) ≡ 160 = search needs in
-    let found = c .in-Some .ensures tt in (
-      rw (object-some (t .objects) (t .slots) (c .args .name) (c .in-Some .place) (found .value)),
-      end-frame (t .objects) (t .slots) (t .given) (c .args .name) (c .in-Some .place) _ refl (found .value) (t .distinct) long (found .within) (t .processes),
-      end-homes (t .objects) (t .slots) (t .given) (c .args .name) (c .in-Some .place) _ refl (found .value) (t .distinct) long (found .within),
+    let t = c.args.self.now in
+    let long : length c.args.self.now.objects ≡ 160 = search rules in
+    let found = c.in-Some.ensures in (
+      rw (object_some t.objects t.slots c.args.name c.in-Some.place found.value),
+      end_frame t.objects t.slots t.given c.args.name c.in-Some.place _ refl found.value t.distinct long found.within t.processes,
+      end_homes t.objects t.slots t.given c.args.name c.in-Some.place _ refl found.value t.distinct long found.within,
     )

@@ -1,16 +1,16 @@
-use native.Mathlib.Omega.{arith}
-use Rattle·std.proofs.shelf.Ways.{tells}
-use Rattle·objects·specs.Abstract.{process-of}
-use Rattle·objects·proofs.tables.Tables.enrolled.Needs as need
+use Rattle.std.proofs.Common.{arith}
+use Rattle.std.proofs.lemmas.Bool.Decides.{nat_tests}
+use Rattle.objects.specs.Abstract.{process_of}
+use Rattle.objects.proofs.tables.Tables.enrolled.Goals as goal
 
-pub returns-then-process-eq0 : need.returns-then-process-eq0
-unfolding process-of
-returns-then-process-eq0 c = grind (arith, tells)
+pub returns-then-process-eq0 : goal.returns-then-process-eq0
+unfolding process_of
+returns-then-process-eq0 c = grind (arith, nat_tests)
 
-pub returns-in-Absent : need.returns-in-Absent
-unfolding process-of
-returns-in-Absent c = grind (arith, tells)
+pub returns-in-Absent : goal.returns-in-Absent
+unfolding process_of
+returns-in-Absent c = grind (arith, nat_tests)
 
-pub returns-in-rest : need.returns-in-rest
-unfolding process-of
-returns-in-rest c = grind (arith, tells)
+pub returns-in-default : goal.returns-in-default
+unfolding process_of
+returns-in-default c = grind (arith, nat_tests)

@@ -1,12 +1,11 @@
-use mathlib.Core.Path.{ap}
-use native.Mathlib.Omega.{arith}
-use Rattle·objects·specs.Abstract.{home-of, on-shelf}
-use Rattle·objects·proofs.tables.Tables.home.Needs as need
+use Rattle.std.proofs.Common.{ap, arith}
+use Rattle.objects.specs.Abstract.{home_of, on_shelf}
+use Rattle.objects.proofs.tables.Tables.home.Goals as goal
 
-pub returns-in-Some : need.returns-in-Some
-unfolding home-of
-returns-in-Some c = record { value = ap on-shelf (c .in-Some .ensures tt .value); within = (omega arith, omega (arith, c .in-Some .ensures tt .within)) }
+pub returns-in-Some : goal.returns-in-Some
+unfolding home_of
+returns-in-Some c = record { value = ap on_shelf c.in-Some.ensures.value; within = (omega arith, omega (arith, c.in-Some.ensures.within)) }
 
-pub returns-in-None : need.returns-in-None
-unfolding home-of
-returns-in-None c = record { value = ap on-shelf (c .in-None .ensures tt .value); within = tt }
+pub returns-in-None : goal.returns-in-None
+unfolding home_of
+returns-in-None c = record { value = ap on_shelf c.in-None.ensures.value; within = tt }

@@ -1,9 +1,9 @@
-use mathlib.Core.Path.{_≡_, refl, sym, ap}
-use Rattle·objects·proofs.Bodies.{object-none, object-some}
-use Rattle·objects·proofs.tables.Tables.is_living.Needs as need
+use Rattle.std.proofs.Common.{◌≡◌, sym, refl, ap}
+use Rattle.objects.proofs.Bodies.{object_none, object_some}
+use Rattle.objects.proofs.tables.Tables.is_living.Goals as goal
 
-pub returns-in-Some : need.returns-in-Some
-returns-in-Some c = rw (object-some _ _ _ _ (c .in-Some .ensures tt .value))
+pub returns-in-Some : goal.returns-in-Some
+returns-in-Some c = rw (object_some _ _ _ _ c.in-Some.ensures.value)
 
-pub returns-in-None : need.returns-in-None
-returns-in-None c = rw (object-none _ _ _ (c .in-None .ensures tt .value))
+pub returns-in-None : goal.returns-in-None
+returns-in-None c = rw (object_none _ _ _ c.in-None.ensures.value)

@@ -1,20 +1,17 @@
-use mathlib.Core.Path.{_≡_, ap, _∙_}
-use native.Mathlib.Omega.{arith}
-use borrow.Author.Needs.{needs}
-use Rattle·std.specs.declared.result.Result.the-variants.{Ok}
-use Rattle·model.specs.Plan.{length-of, last-filled}
-use Rattle·objects·proofs.Spaces.{top-none, top-some}
-use Rattle·objects·proofs.tables.Tables.length.Needs as need
+use Rattle.std.proofs.Common.{◌≡◌, Ok, ap, ◌∙◌, arith, rules}
+use Rattle.model.specs.Plan.{length_of, last_filled}
+use Rattle.objects.proofs.Spaces.{top_none, top_some}
+use Rattle.objects.proofs.tables.Tables.length.Goals as goal
 
-pub returns-then-depth-eq0 : need.returns-then-depth-eq0
-unfolding length-of last-filled
+pub returns-then-depth-eq0 : goal.returns-then-depth-eq0
+unfolding length_of last_filled
 returns-then-depth-eq0 c =
-    record { value = ap (λ l. Ok (last-filled l)) (top-none _ _ _ (c .depth-depth .ensures .value) (c .if-depth-eq0 .taken)); bound = omega arith }
+    record { value = ap (λ l. Ok (last_filled l)) (top_none _ _ _ c.depth-depth.ensures.value c.if-depth-eq0.true); bound = omega arith }
 
-pub returns : need.returns
-unfolding length-of
+pub returns : goal.returns
+unfolding length_of
 returns c =
     record {
-      value = ap Ok (c .space-length .ensures .value) ∙ ap (λ l. Ok (last-filled l)) (top-some _ _ _ (c .depth-depth .ensures .value) (c .if-depth-eq0 .left));
-      bound = c .space-length .ensures .bound;
+      value = ap Ok c.space-length.ensures.value ∙ ap (λ l. Ok (last_filled l)) (top_some _ _ _ c.depth-depth.ensures.value c.if-depth-eq0.false);
+      bound = c.space-length.ensures.bound;
     }

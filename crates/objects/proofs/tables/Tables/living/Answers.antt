@@ -1,24 +1,22 @@
-use mathlib.Core.Path.{_≡_, sym, ap, _∙_}
-use Prim.Native.Nat.{_-_, _+_}
-use native.Mathlib.Omega.{arith}
-use Rattle·objects·specs.Abstract.{living-of, count}
-use Rattle·objects·proofs.Seek.{count-used, count-unused, count-none, count-all}
-use Rattle·objects·proofs.tables.Tables.living.Needs as need
-use Rattle·objects·proofs.tables.Tables.living.Needs.{then-self-i-ne0, else-self-i-ne0}
+use Rattle.std.proofs.Common.{◌≡◌, ◌+◌, ◌-◌, sym, ap, ◌∙◌, arith}
+use Rattle.objects.specs.Abstract.{living_of, count}
+use Rattle.objects.proofs.Seek.{count_used, count_unused, count_none, count_all}
+use Rattle.objects.proofs.tables.Tables.living.Goals as goal
+use Rattle.objects.proofs.tables.Tables.living.Goals.{then-self-i-ne0, else-self-i-ne0}
 
-pub loop-i-again : need.loop-i-again
-loop-i-again c =
-    let rows = c .args .self .now .objects in
-    let left = (c .base-low .result + c .size .result) - c .loop-i .i in
-    let e : left - 1 ≡ (c .base-low .result + c .size .result) - (c .loop-i .i + 1) = omega arith in
-    elim (c .if-self-i-ne0 .came) [
-      | then-self-i-ne0 w ↦ (let u = rw e at (count-used rows left (c .loop-i .i) (omega arith) (w .if-self-i-ne0 .taken)) in omega (arith, u, w .living-is, c .loop-i .inv .0), omega (arith, w .living-is, c .loop-i .inv .1))
-      | else-self-i-ne0 w ↦ (let u = rw e at (count-unused rows left (c .loop-i .i) (omega arith) (w .if-self-i-ne0 .left)) in omega (arith, u, w .living-is, c .loop-i .inv .0), omega (arith, w .living-is, c .loop-i .inv .1))
+pub loop-i-preserved : goal.loop-i-preserved
+loop-i-preserved c =
+    let rows = c.args.self.now.objects in
+    let left = (c.base-low.result + c.size.result) - c.loop-i.i in
+    let e : left - 1 ≡ (c.base-low.result + c.size.result) - (c.loop-i.i + 1) = omega arith in
+    elim c.if-self-i-ne0.branch [
+      | then-self-i-ne0 w ↦ (let u = rw e at (count_used rows left c.loop-i.i (omega arith) w.if-self-i-ne0.true) in omega (arith, u, w.living-is, c.loop-i.invariant.0), omega (arith, w.living-is, c.loop-i.invariant.1))
+      | else-self-i-ne0 w ↦ (let u = rw e at (count_unused rows left c.loop-i.i (omega arith) w.if-self-i-ne0.false) in omega (arith, u, w.living-is, c.loop-i.invariant.0), omega (arith, w.living-is, c.loop-i.invariant.1))
     ]
 
-pub returns : need.returns
-unfolding living-of
+pub returns : goal.returns
+unfolding living_of
 returns c =
-    let rows = c .args .self .now .objects in
-    let z = count-none rows ((c .base-low .result + c .size .result) - c .loop-i .i) (c .loop-i .i) (omega arith) in
-    omega (arith, z, c .loop-i .inv .0, count-all rows (c .args .share) (c .base-low .result) (c .size .result) (c .base-low .ensures) (c .size .ensures))
+    let rows = c.args.self.now.objects in
+    let z = count_none rows ((c.base-low.result + c.size.result) - c.loop-i.i) c.loop-i.i (omega arith) in
+    omega (arith, z, c.loop-i.invariant.0, count_all rows c.args.share c.base-low.result c.size.result c.base-low.ensures c.size.ensures)

@@ -1,66 +1,58 @@
-use mathlib.Core.Path.{_≡_, refl, sym, ap, subst, _∙_}
-use mathlib.Core.Bool.{Bool, true, false, cond, _&&_}
-use mathlib.Core.List.{List, [], _∷_}
-use Prim.Native.Nat.{ℕ, _+_, _-_, _<_, _≤_}
-use lib.ListN.{length, getD, set}
-use lib.Dec.{eqb, leb, ltb}
-use native.Mathlib.Omega.{arith}
-use borrow.Author.Needs.{needs}
-use Rattle·std.proofs.shelf.Tests.{le-leb, lt-leb}
-use Rattle·std.specs.declared.result.Result.the-variants.{Ok, Err}
-use Rattle·model.specs.Plan.{new-number}
-use Rattle·model.specs.Plan.{places}
-use Rattle·objects·specs.Places.{base-of}
-use Rattle·model.specs.declared.kinds.Slot.{Slot}
-use Rattle·objects·specs.Abstract.{living-of, frame, frame-of}
-use Rattle·objects·proofs.Bodies.{seek-found}
-use Rattle·objects·proofs.Making.{full, some-left, small-share, new-frame, new-homes, unused, new-bounded, new-distinct}
-use Rattle·objects·proofs.tables.Tables.make.Needs as need
+use Rattle.std.proofs.Common.{◌≡◌, ℕ, ◌+◌, ◌-◌, ◌<◌, ◌≤◌, Bool, true, false, cond, ◌&&◌, eqb, ltb, leb, List, [], ◌∷◌, length, get_or, set, Ok, Err, sym, refl, ap, ◌∙◌, subst, arith, rules}
+use Rattle.std.proofs.lemmas.Bool.{le-leb, lt-leb}
+use Rattle.model.specs.Plan.{new_number}
+use Rattle.model.specs.Plan.{places}
+use Rattle.objects.specs.Places.{base_of}
+use Rattle.model.specs.declared.kinds.Slot.{Slot}
+use Rattle.objects.specs.Abstract.{living_of, frame, frame_of}
+use Rattle.objects.proofs.Bodies.{seek_found}
+use Rattle.objects.proofs.Making.{full, some_left, small_share, new_frame, new_homes, unused, new_bounded, new_distinct}
+use Rattle.objects.proofs.tables.Tables.make.Goals as goal
 
-pub returns-in-rest : need.returns-in-rest
-unfolding living-of new-number
-returns-in-rest c = (rw (le-leb _ _ (full _ _ _ (c .in-rest .ensures tt .value))) (ap Err (c .new .ensures)), refl, refl)
+pub returns-in-default : goal.returns-in-default
+unfolding living_of new_number
+returns-in-default c = (rw (le-leb _ _ (full _ _ _ c.in-default.ensures.value)) (ap Err c.new.ensures), refl, refl)
 
-small : (c : need.After-way-told·1) → c .args .share < 9
-small c = let f = seek-found _ _ _ _ _ (sym (c .in-Some .ensures tt .value)) in small-share (c .args .share) (c .in-Some .place) (f .low) (f .high) .0
+small : (c : goal.After-way-told·1) → c.args.share < 9
+small c = let f = seek_found _ _ _ _ _ (sym c.in-Some.ensures.value) in (small_share c.args.share c.in-Some.place f.low f.high).0
 
-pub index-self-share : need.index-self-share
-index-self-share c = small c
+pub bounds-self-share : goal.bounds-self-share
+bounds-self-share c = small c
 
-pub returns-then-number-ge60000 : need.returns-then-number-ge60000
-unfolding living-of new-number
-returns-then-number-ge60000 c = (rw (lt-leb _ _ (some-left _ _ _ _ (c .in-Some .ensures tt .value)), le-leb _ _ (c .if-number-ge60000 .taken)) (ap Err (c .new-then-number-ge60000 .ensures)), refl, refl)
+pub returns-then-number-ge60000 : goal.returns-then-number-ge60000
+unfolding living_of new_number
+returns-then-number-ge60000 c = (rw (lt-leb _ _ (some_left _ _ _ _ c.in-Some.ensures.value), le-leb _ _ c.if-number-ge60000.true) (ap Err c.new-then-number-ge60000.ensures), refl, refl)
 
-pub index-self-share-2 : need.index-self-share-2
-index-self-share-2 c = let f = seek-found _ _ _ _ _ (sym (c .in-Some .ensures tt .value)) in small-share (c .args .share) (c .in-Some .place) (f .low) (f .high) .0
+pub bounds-self-share-2 : goal.bounds-self-share-2
+bounds-self-share-2 c = let f = seek_found _ _ _ _ _ (sym c.in-Some.ensures.value) in (small_share c.args.share c.in-Some.place f.low f.high).0
 
-pub ghost-self : need.ghost-self
-ghost-self c =
-    let long : length (c .args .self .now .objects) ≡ 160 = search needs in
-    let wide : length (c .args .self .now .given) ≡ 9 = search needs in
-    let big : length (c .args .self .now .slots) ≡ 1280 = search needs in
-    let t = c .args .self .now in
-    let free = c .in-Some .ensures tt .value in (
-      new-bounded (t .objects) (t .slots) (t .given) (c .args .share) (c .in-Some .place) (c .args .kind) _ refl free (t .bounded) long wide big,
+pub invariant-of-self : goal.invariant-of-self
+invariant-of-self c =
+    let long : length c.args.self.now.objects ≡ 160 = search rules in
+    let wide : length c.args.self.now.given ≡ 9 = search rules in
+    let big : length c.args.self.now.slots ≡ 1280 = search rules in
+    let t = c.args.self.now in
+    let free = c.in-Some.ensures.value in (
+      new_bounded t.objects t.slots t.given c.args.share c.in-Some.place c.args.kind _ refl free t.bounded long wide big,
       (
-        new-distinct (t .objects) (t .slots) (t .given) (c .args .share) (c .in-Some .place) (c .args .kind) _ refl free (t .bounded) long wide big (t .distinct),
-        (t .deep, (t .shelved, tt)),
+        new_distinct t.objects t.slots t.given c.args.share c.in-Some.place c.args.kind _ refl free t.bounded long wide big t.distinct,
+        (t.deep, (t.shelved, tt)),
       ),
     )
 
-pub returns : need.returns
-unfolding living-of new-number
+pub returns : goal.returns
+unfolding living_of new_number
 returns c =
-    let long : length (c .args .self .now .objects) ≡ 160 = search needs in
-    let wide : length (c .args .self .now .given) ≡ 9 = search needs in
-    let big : length (c .args .self .now .slots) ≡ 1280 = search needs in
-    let t = c .args .self .now in
-    let free = c .in-Some .ensures tt .value in (
-      rw (lt-leb _ _ (some-left _ _ _ _ free), lt-leb _ _ (c .if-number-ge60000 .left)),
-      ap (λ (l : List Slot). frame-of (set (t .objects) (c .in-Some .place) (record { number = getD (t .given) (c .args .share) 0 + 1; kind = c .args .kind })) l (set (t .given) (c .args .share) (getD (t .given) (c .args .share) 0 + 1)) (t .processes)) (c .wipe .ensures)
-          ∙ new-frame (t .objects) (t .slots) (t .given) (c .args .share) (c .in-Some .place) (c .args .kind) _ refl free (t .bounded) long wide big (t .processes),
-      new-homes (t .objects) (t .slots) (t .given) (c .args .share) (c .in-Some .place) (c .args .kind) _ refl free (t .bounded) long wide big,
-      unused (t .objects) (t .slots) (t .given) (c .args .share) (c .in-Some .place) (c .args .kind) _ refl free (t .bounded) long wide big,
+    let long : length c.args.self.now.objects ≡ 160 = search rules in
+    let wide : length c.args.self.now.given ≡ 9 = search rules in
+    let big : length c.args.self.now.slots ≡ 1280 = search rules in
+    let t = c.args.self.now in
+    let free = c.in-Some.ensures.value in (
+      rw (lt-leb _ _ (some_left _ _ _ _ free), lt-leb _ _ c.if-number-ge60000.false),
+      ap (λ (l : List Slot). frame_of (set t.objects c.in-Some.place (record { number = get_or t.given c.args.share 0 + 1; kind = c.args.kind })) l (set t.given c.args.share (get_or t.given c.args.share 0 + 1)) t.processes) c.wipe.ensures
+          ∙ new_frame t.objects t.slots t.given c.args.share c.in-Some.place c.args.kind _ refl free t.bounded long wide big t.processes,
+      new_homes t.objects t.slots t.given c.args.share c.in-Some.place c.args.kind _ refl free t.bounded long wide big,
+      unused t.objects t.slots t.given c.args.share c.in-Some.place c.args.kind _ refl free t.bounded long wide big,
       omega arith,
-      omega (arith, c .in-Some .ensures tt .within),
+      omega (arith, c.in-Some.ensures.within),
     )

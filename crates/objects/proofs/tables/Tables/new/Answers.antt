@@ -1,13 +1,9 @@
-use mathlib.Core.Path.{_≡_, refl}
-use Prim.Native.Nat.{ℕ, _≤_, zero-le}
-use native.Mathlib.Nat.{le-trans}
-use native.Mathlib.Omega.{arith}
-use borrow.Author.Needs.{needs}
-use Rattle·objects·proofs.Fresh.{fresh, shallow, shelved, bare-frame}
-use Rattle·objects·proofs.tables.Tables.new.Needs as need
+use Rattle.std.proofs.Common.{◌≡◌, ℕ, ◌≤◌, refl, zero-le, le_trans, arith, rules}
+use Rattle.objects.proofs.Fresh.{fresh, shallow, shelved, bare_frame}
+use Rattle.objects.proofs.tables.Tables.new.Goals as goal
 
-pub ghost-result : need.ghost-result
-ghost-result c = (λ s i h k. le-trans (fresh 160 _ refl i) (zero-le {n = _}), (λ s i j h. fresh 160 _ refl i, (λ p. shallow 8 _ refl p, (λ p. shelved 8 _ refl p, tt))))
+pub invariant-of-result : goal.invariant-of-result
+invariant-of-result c = (λ s i h k. le_trans (fresh 160 _ refl i) (zero-le {n = _}), (λ s i j h. fresh 160 _ refl i, (λ p. shallow 8 _ refl p, (λ p. shelved 8 _ refl p, tt))))
 
-pub returns : need.returns
-returns c = record { scene = bare-frame _ _ _ refl refl; slots = refl }
+pub returns : goal.returns
+returns c = record { scene = bare_frame _ _ _ refl refl; slots = refl }

@@ -1,11 +1,11 @@
-use borrow.Author.Needs.{needs}
-use Rattle·model.specs.SetUp.{owned}
-use Rattle·objects·proofs.tables.Tables.owned.Needs as need
+use Rattle.std.proofs.Common.{rules}
+use Rattle.model.specs.SetUp.{owned}
+use Rattle.objects.proofs.tables.Tables.owned.Goals as goal
 
-pub returns-in-Process : need.returns-in-Process
+pub returns-in-Process : goal.returns-in-Process
 unfolding owned
-returns-in-Process c = search needs
+returns-in-Process c = search rules
 
-pub returns-in-Object : need.returns-in-Object
+pub returns-in-Object : goal.returns-in-Object
 unfolding owned
-returns-in-Object c = search needs
+returns-in-Object c = search rules

@@ -1,19 +1,15 @@
-use mathlib.Core.Path.{_≡_, refl}
-use Prim.Native.Nat.{ℕ, _+_, _*_, _≤_, _<_}
-use native.Mathlib.Omega.{arith}
-use borrow.Author.Needs.{needs}
-use lib.ListN.{set, length}
-use Rattle·objects·proofs.Bodies.{put-frame, put-none, put-past}
-use Rattle·objects·proofs.tables.Tables.put.Needs as need
+use Rattle.std.proofs.Common.{◌≡◌, ℕ, ◌+◌, ◌*◌, ◌<◌, ◌≤◌, length, set, refl, arith, rules}
+use Rattle.objects.proofs.Bodies.{put_frame, put_none, put_past}
+use Rattle.objects.proofs.tables.Tables.put.Goals as goal
 
-pub returns-then-index-lt8 : need.returns-then-index-lt8
+pub returns-then-index-lt8 : goal.returns-then-index-lt8
 returns-then-index-lt8 c =
-    let long : length (c .args .self .now .slots) ≡ 1280 = search needs in
-    let small : c .in-Some .place < 160 = search needs in
-    record { after = put-frame _ _ _ _ _ _ _ _ (c .in-Some .ensures tt .value) (c .if-index-lt8 .taken) (omega arith); homes = refl }
+    let long : length c.args.self.now.slots ≡ 1280 = search rules in
+    let small : c.in-Some.place < 160 = search rules in
+    record { after = put_frame _ _ _ _ _ _ _ _ c.in-Some.ensures.value c.if-index-lt8.true (omega arith); homes = refl }
 
-pub returns-else-index-lt8 : need.returns-else-index-lt8
-returns-else-index-lt8 c = record { after = put-past _ _ _ _ _ _ _ (c .if-index-lt8 .left); homes = refl }
+pub returns-else-index-lt8 : goal.returns-else-index-lt8
+returns-else-index-lt8 c = record { after = put_past _ _ _ _ _ _ _ c.if-index-lt8.false; homes = refl }
 
-pub returns-in-rest : need.returns-in-rest
-returns-in-rest c = record { after = put-none _ _ _ _ _ _ _ (c .in-rest .ensures tt .value); homes = refl }
+pub returns-in-default : goal.returns-in-default
+returns-in-default c = record { after = put_none _ _ _ _ _ _ _ c.in-default.ensures.value; homes = refl }

@@ -1,28 +1,22 @@
-use mathlib.Core.Path.{_≡_, refl, sym, ap, subst, _∙_, fun-ext}
-use mathlib.Core.Bool.{Bool, true, false, cond, _&&_}
-use mathlib.Core.List.{List, [], _∷_}
-use Prim.Native.Nat.{ℕ, _+_, _-_, _<_, _≤_}
-use lib.ListN.{length, getD, set}
-use lib.Dec.{eqb, leb, ltb}
-use native.Mathlib.Omega.{arith}
-use borrow.Author.Needs.{needs}
-use Rattle·std.proofs.shelf.Ways.{tells}
-use Rattle·model.specs.Plan.{runs}
-use Rattle·objects·specs.Abstract.{process-of}
-use Rattle·objects·proofs.tables.Tables.running.Needs as need
+use Rattle.std.proofs.Common.{◌≡◌, ℕ, ◌+◌, ◌-◌, ◌<◌, ◌≤◌, Bool, true, false, cond, ◌&&◌, eqb, ltb, leb, List, [], ◌∷◌, length, get_or, set, sym, refl, ap, ◌∙◌, subst, arith, rules}
+use mathlib.Core.Path.{fun_ext}
+use Rattle.std.proofs.lemmas.Bool.Decides.{nat_tests}
+use Rattle.model.specs.Plan.{runs}
+use Rattle.objects.specs.Abstract.{process_of}
+use Rattle.objects.proofs.tables.Tables.running.Goals as goal
 
-pub returns-then-process-eq0 : need.returns-then-process-eq0
-unfolding process-of runs
-returns-then-process-eq0 c = grind (arith, tells)
+pub returns-then-process-eq0 : goal.returns-then-process-eq0
+unfolding process_of runs
+returns-then-process-eq0 c = grind (arith, nat_tests)
 
-pub returns-in-Absent : need.returns-in-Absent
-unfolding process-of runs
-returns-in-Absent c = grind (arith, tells)
+pub returns-in-Absent : goal.returns-in-Absent
+unfolding process_of runs
+returns-in-Absent c = grind (arith, nat_tests)
 
-pub returns-in-Running : need.returns-in-Running
-unfolding process-of runs
-returns-in-Running c = grind (arith, tells)
+pub returns-in-Running : goal.returns-in-Running
+unfolding process_of runs
+returns-in-Running c = grind (arith, nat_tests)
 
-pub returns-in-Stopped : need.returns-in-Stopped
-unfolding process-of runs
-returns-in-Stopped c = grind (arith, tells)
+pub returns-in-Stopped : goal.returns-in-Stopped
+unfolding process_of runs
+returns-in-Stopped c = grind (arith, nat_tests)

@@ -1,28 +1,23 @@
-use mathlib.Core.Path.{_≡_, refl, sym, ap, subst, _∙_}
-use Prim.Native.Nat.{ℕ, _+_, _-_, _<_, _≤_}
-use lib.Dec.{eqb}
-use mathlib.Core.Bool.{true, false}
-use native.Mathlib.Omega.{arith}
-use borrow.Author.Needs.{needs}
-use Rattle·std.proofs.shelf.Tests.{ne-eqb}
-use Rattle·model.specs.Plan.{places}
-use Rattle·objects·specs.Places.{seek, row-at, place-of, base-of}
-use Rattle·objects·proofs.Seek.{seek-none, seek-here, seek-next, seek-all}
-use Rattle·objects·proofs.tables.Tables.scan.Needs as need
+use Rattle.std.proofs.Common.{◌≡◌, ℕ, ◌+◌, ◌-◌, ◌<◌, ◌≤◌, true, false, eqb, sym, refl, ap, ◌∙◌, subst, arith, rules}
+use Rattle.std.proofs.lemmas.Bool.{ne_eqb}
+use Rattle.model.specs.Plan.{places}
+use Rattle.objects.specs.Places.{seek, row_at, place_of, base_of}
+use Rattle.objects.proofs.Seek.{seek_none, seek_here, seek_next, seek_all}
+use Rattle.objects.proofs.tables.Tables.scan.Goals as goal
 
-pub loop-i-holds : need.loop-i-holds
-loop-i-holds c = refl
+pub loop-i-init : goal.loop-i-init
+loop-i-init c = refl
 
-pub returns-then-self-i : need.returns-then-self-i
+pub returns-then-self-i : goal.returns-then-self-i
 returns-then-self-i c =
-    record { value = sym (seek-all (c .args .self .now .objects) (c .args .share) (c .args .number) (c .base-low .result) (c .size .result) (c .base-low .ensures) (c .size .ensures) ∙ sym (c .loop-i .inv) ∙ seek-here (c .args .self .now .objects) (c .args .number) _ (c .loop-i .i) (omega arith) (c .if-self-i .taken)); within = search needs }
+    record { value = sym (seek_all c.args.self.now.objects c.args.share c.args.number c.base-low.result c.size.result c.base-low.ensures c.size.ensures ∙ sym c.loop-i.invariant ∙ seek_here c.args.self.now.objects c.args.number _ c.loop-i.i (omega arith) c.if-self-i.true); within = search rules }
 
-pub loop-i-again : need.loop-i-again
-loop-i-again c =
-    let e : (c .base-low .result + c .size .result) - c .loop-i .i - 1 ≡ (c .base-low .result + c .size .result) - (c .loop-i .i + 1) = omega arith in
-    let step = seek-next (c .args .self .now .objects) (c .args .number) ((c .base-low .result + c .size .result) - c .loop-i .i) (c .loop-i .i) (omega arith) (c .if-self-i .left) in
-    rw e at (sym step) ∙ c .loop-i .inv
+pub loop-i-preserved : goal.loop-i-preserved
+loop-i-preserved c =
+    let e : (c.base-low.result + c.size.result) - c.loop-i.i - 1 ≡ (c.base-low.result + c.size.result) - (c.loop-i.i + 1) = omega arith in
+    let step = seek_next c.args.self.now.objects c.args.number ((c.base-low.result + c.size.result) - c.loop-i.i) c.loop-i.i (omega arith) c.if-self-i.false in
+    rw e at (sym step) ∙ c.loop-i.invariant
 
-pub returns : need.returns
+pub returns : goal.returns
 returns c =
-    record { value = sym (seek-all (c .args .self .now .objects) (c .args .share) (c .args .number) (c .base-low .result) (c .size .result) (c .base-low .ensures) (c .size .ensures) ∙ sym (c .loop-i .inv) ∙ seek-none (c .args .self .now .objects) (c .args .number) _ (c .loop-i .i) (omega arith)); within = tt }
+    record { value = sym (seek_all c.args.self.now.objects c.args.share c.args.number c.base-low.result c.size.result c.base-low.ensures c.size.ensures ∙ sym c.loop-i.invariant ∙ seek_none c.args.self.now.objects c.args.number _ c.loop-i.i (omega arith)); within = tt }

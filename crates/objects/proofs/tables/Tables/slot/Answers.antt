@@ -1,22 +1,19 @@
-use mathlib.Core.Path.{_≡_, refl, sym, ap}
-use Prim.Native.Nat.{_*_}
-use native.Mathlib.Omega.{arith}
-use Rattle·std.proofs.shelf.Tests.{lt-ltb, le-ltb}
-use Rattle·std.specs.declared.result.Result.the-variants.{Err}
-use Rattle·objects·proofs.Bodies.{object-none, object-some, lot-at}
-use Rattle·objects·proofs.tables.Tables.slot.Needs as need
+use Rattle.std.proofs.Common.{◌≡◌, ◌*◌, Err, sym, refl, ap, arith}
+use Rattle.std.proofs.lemmas.Bool.{lt-ltb, le-ltb}
+use Rattle.objects.proofs.Bodies.{object_none, object_some, lot_at}
+use Rattle.objects.proofs.tables.Tables.slot.Goals as goal
 
-pub returns-in-rest : need.returns-in-rest
-returns-in-rest c =
-    let o = object-none (c .args .self .now .objects) (c .args .self .now .slots) (c .args .name) (c .in-rest .ensures tt .value) in rw o (ap Err (c .new .ensures))
+pub returns-in-default : goal.returns-in-default
+returns-in-default c =
+    let o = object_none c.args.self.now.objects c.args.self.now.slots c.args.name c.in-default.ensures.value in rw o (ap Err c.new.ensures)
 
-pub returns-then-index-room : need.returns-then-index-room
+pub returns-then-index-room : goal.returns-then-index-room
 returns-then-index-room c =
-    let o = object-some (c .args .self .now .objects) (c .args .self .now .slots) (c .args .name) (c .in-Some .place) (c .in-Some .ensures tt .value) in
-    rw (o, le-ltb _ _ (rw (c .room .ensures .value) at (c .if-index-room .taken))) (ap Err (c .new-then-index-room .ensures))
+    let o = object_some c.args.self.now.objects c.args.self.now.slots c.args.name c.in-Some.place c.in-Some.ensures.value in
+    rw (o, le-ltb _ _ (rw c.room.ensures.value at c.if-index-room.true)) (ap Err c.new-then-index-room.ensures)
 
-pub returns : need.returns
+pub returns : goal.returns
 returns c =
-    let o = object-some (c .args .self .now .objects) (c .args .self .now .slots) (c .args .name) (c .in-Some .place) (c .in-Some .ensures tt .value) in
-    let at = lot-at (c .args .self .now .slots) (8 * c .in-Some .place) 8 (c .args .index) (omega (arith, c .room .ensures .bound, c .if-index-room .left)) in
-    rw (o, at, lt-ltb _ _ (rw (c .room .ensures .value) at (c .if-index-room .left)))
+    let o = object_some c.args.self.now.objects c.args.self.now.slots c.args.name c.in-Some.place c.in-Some.ensures.value in
+    let at = lot_at c.args.self.now.slots (8 * c.in-Some.place) 8 c.args.index (omega (arith, c.room.ensures.bound, c.if-index-room.false)) in
+    rw (o, at, lt-ltb _ _ (rw c.room.ensures.value at c.if-index-room.false))

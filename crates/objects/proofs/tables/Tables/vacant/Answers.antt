@@ -1,17 +1,16 @@
-use borrow.Author.Needs.{needs}
-use native.Mathlib.Omega.{arith}
-use Rattle·std.proofs.shelf.Ways.{tells}
-use Rattle·model.specs.Plan.{vacant}
-use Rattle·objects·proofs.tables.Tables.vacant.Needs as need
+use Rattle.std.proofs.Common.{arith, rules}
+use Rattle.std.proofs.lemmas.Bool.Decides.{nat_tests}
+use Rattle.model.specs.Plan.{vacant}
+use Rattle.objects.proofs.tables.Tables.vacant.Goals as goal
 
-pub returns-in-Break-reach : need.returns-in-Break-reach
+pub returns-in-err-reach : goal.returns-in-err-reach
 unfolding vacant
-returns-in-Break-reach c = search needs
+returns-in-err-reach c = search rules
 
-pub returns-in-Empty : need.returns-in-Empty
+pub returns-in-Empty : goal.returns-in-Empty
 unfolding vacant
-returns-in-Empty c = search needs
+returns-in-Empty c = search rules
 
-pub returns-in-rest : need.returns-in-rest
+pub returns-in-default : goal.returns-in-default
 unfolding vacant
-returns-in-rest c = search needs
+returns-in-default c = search rules

@@ -1,8 +1,8 @@
-use Rattle·objects.specs.Abstract.{frame}
-use Rattle·scene·proofs.Housed.{enrol-housed}
-use Rattle·scene·proofs.setup.SetUp.enrol.Needs as need
+use Rattle.objects.specs.Abstract.{frame}
+use Rattle.scene.proofs.Housed.{enrol_housed}
+use Rattle.scene.proofs.setup.SetUp.enrol.Goals as goal
 
-pub ghost-self : need.ghost-self
-ghost-self g c =
-    let up = c .args .self .now in
-    enrol-housed (c .enrol .result) (frame (up .tables)) _ _ _ (record { objects = up .objects; held = up .held; listed = up .listed }) (c .enrol .ensures)
+pub invariant-of-self : goal.invariant-of-self
+invariant-of-self g c =
+    let up = c.args.self.now in
+    enrol_housed c.enrol.result (frame up.tables) _ _ _ (record { objects = up.objects; held = up.held; listed = up.listed }) c.enrol.ensures

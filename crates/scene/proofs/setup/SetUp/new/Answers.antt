@@ -1,9 +1,9 @@
-use Rattle·model.proofs.Opened.{opened-bare}
-use Rattle·scene·proofs.Housed.{housed}
-use Rattle·scene·proofs.setup.SetUp.new.Needs as need
+use Rattle.model.proofs.Opened.{opened_bare}
+use Rattle.scene.proofs.Housed.{housed}
+use Rattle.scene.proofs.setup.SetUp.new.Goals as goal
 
-pub ghost-result : need.ghost-result
-ghost-result g c = housed _ _ (c .new .ensures .scene) opened-bare
+pub invariant-of-result : goal.invariant-of-result
+invariant-of-result g c = housed _ _ c.new.ensures.scene opened_bare
 
-pub returns : need.returns
-returns g c = record { scene = c .new .ensures .scene; slots = c .new .ensures .slots }
+pub returns : goal.returns
+returns g c = record { scene = c.new.ensures.scene; slots = c.new.ensures.slots }

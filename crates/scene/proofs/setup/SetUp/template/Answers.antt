@@ -1,9 +1,9 @@
-use Rattle·model.proofs.Opened.{opened-put, template-slot}
-use Rattle·scene·proofs.Housed.{housed}
-use Rattle·scene·proofs.setup.SetUp.template.Needs as need
+use Rattle.model.proofs.Opened.{opened_put, template_slot}
+use Rattle.scene.proofs.Housed.{housed}
+use Rattle.scene.proofs.setup.SetUp.template.Goals as goal
 
-pub ghost-self : need.ghost-self
-ghost-self g c =
-    let up = c .args .self .now in
-    housed _ _ (c .put-in .ensures .after)
-    (opened-put (record { objects = up .objects; held = up .held; listed = up .listed }) _ (template-slot _) _ _ _)
+pub invariant-of-self : goal.invariant-of-self
+invariant-of-self g c =
+    let up = c.args.self.now in
+    housed _ _ c.put-in.ensures.after
+    (opened_put (record { objects = up.objects; held = up.held; listed = up.listed }) _ (template_slot _) _ _ _)

@@ -1,13 +1,13 @@
-use native.Mathlib.Omega.{arith}
-use Rattle·std.proofs.shelf.Lists.{getD-set-same}
-use Rattle·shelf·proofs.Shifting.{shifted-set}
-use Rattle·shelf·proofs.cells.Packed.insert.Needs as need
+use Rattle.std.proofs.Common.{arith}
+use Rattle.std.proofs.lemmas.List.{get_or-set_same}
+use Rattle.shelf.proofs.Shifting.{shifted_set}
+use Rattle.shelf.proofs.cells.Packed.insert.Goals as goal
 
-pub returns : need.returns
+pub returns : goal.returns
 returns g c =
-    let self = c .shift-up .last .self in
+    let self = c.shift-up.new.self in
     record {
-      cells = shifted-set _ (self .cells .now) _ _ (c .args .element) (c .shift-up .ensures .cells);
-      here = getD-set-same (self .cells .now) (c .args .at) (c .args .element) (c .args .element) (omega (arith, self .enough));
-      lengths = c .shift-up .ensures .lengths;
+      cells = shifted_set _ self.cells.now _ _ c.args.element c.shift-up.ensures.cells;
+      here = get_or-set_same self.cells.now c.args.at c.args.element c.args.element (omega (arith, self.enough));
+      lengths = c.shift-up.ensures.lengths;
     }

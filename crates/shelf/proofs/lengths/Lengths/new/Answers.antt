@@ -1,6 +1,6 @@
-use lib.Dec.{lit≤}
-use Rattle·shelf·proofs.Shortness.{short-new}
-use Rattle·shelf·proofs.lengths.Lengths.new.Needs as need
+use Rattle.std.proofs.Common.{lit≤}
+use Rattle.shelf.proofs.Shortness.{short_new}
+use Rattle.shelf.proofs.lengths.Lengths.new.Goals as goal
 
-pub ghost-result : need.ghost-result
-ghost-result c = (short-new 160, (lit≤ tt, tt))
+pub invariant-of-result : goal.invariant-of-result
+invariant-of-result c = (short_new 160, (lit≤ tt, tt))

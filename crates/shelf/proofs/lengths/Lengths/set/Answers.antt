@@ -1,6 +1,6 @@
-use lib.ListN.{length-set}
-use Rattle·shelf·proofs.Shortness.{short-set}
-use Rattle·shelf·proofs.lengths.Lengths.set.Needs as need
+use Rattle.std.proofs.Common.{length-set}
+use Rattle.shelf.proofs.Shortness.{short_set}
+use Rattle.shelf.proofs.lengths.Lengths.set.Goals as goal
 
-pub ghost-self : need.ghost-self
-ghost-self c = (short-set _ _ _ (c .pre .1 .1) (c .args .self .now .short), (simp length-set (c .args .self .now .whole), tt))
+pub invariant-of-self : goal.invariant-of-self
+invariant-of-self c = (short_set _ _ _ c.requires.1.1 c.args.self.now.short, (simp length-set c.args.self.now.whole, tt))

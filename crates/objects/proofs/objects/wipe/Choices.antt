@@ -1,7 +1,0 @@
-use mathlib.Core.Path.{_≡_}
-use Prim.Native.Nat.{_+_, _-_, _*_}
-use Rattle·objects·specs.Abstract.{wiped}
-use Rattle·objects·proofs.objects.wipe.Given as given
-
-abbrev pub Inv-loop-i : given.InvT-loop-i
-Inv-loop-i l = wiped (l .slots) (8 * l .place + l .i) (8 - l .i) ≡ wiped (l .entry .slots) (8 * l .place) 8
