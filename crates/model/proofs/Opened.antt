@@ -1,5 +1,5 @@
 -- What set-up keeps: objects of the house alone, and capabilities for them alone.
-use Rattle.std.proofs.Common.{◌≡◌, ℕ, zero, suc, ◌+◌, ◌-◌, ◌≤◌, Bool, true, false, cond, ◌&&◌, eqb, ltb, ◌⊎◌, List, [], ◌∷◌, set, replicate, Some, None, Option, sym, refl, ap, ◌∙◌, subst, inl, inr, ⊎_elim, arith}
+use Rattle.std.proofs.Common.{◌≡◌, ℕ, zero, suc, ◌≤◌, Bool, true, false, cond, ltb, ◌⊎◌, List, [], ◌∷◌, set, replicate, Some, None, Option, refl, ap, inl, inr, ⊎_elim, arith}
 use Rattle.model.specs.declared.kinds.Name.{Name}
 use Rattle.model.specs.declared.kinds.Cap.{Cap}
 use Rattle.model.specs.declared.kinds.Form.{Form}

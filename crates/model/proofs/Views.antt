@@ -1,5 +1,5 @@
 -- What a plan can read, each thing sound.
-use Rattle.std.proofs.Common.{◌≡◌, ℕ, zero, suc, ◌+◌, ◌-◌, ◌≤◌, Bool, true, false, cond, ◌&&◌, T, eqb, ltb, leb, ◌⊎◌, List, [], ◌∷◌, length, get_or, set, replicate, Some, None, Ok, Err, Option, Result, sym, refl, ap, ◌∙◌, subst, ap₂, inl, inr, true≢false, arith, lit≤, eqb→eq}
+use Rattle.std.proofs.Common.{◌≡◌, ℕ, zero, suc, ◌+◌, ◌-◌, ◌≤◌, Bool, true, false, cond, ◌&&◌, T, eqb, ltb, leb, List, [], ◌∷◌, length, get_or, set, replicate, Some, None, Ok, Err, Option, Result, sym, refl, ap, ◌∙◌, subst, ap₂, inl, inr, true≢false, arith, lit≤, eqb→eq}
 use mathlib.Core.Bool.{false≢true}
 use Rattle.model.specs.declared.kinds.Name.{Name}
 use Rattle.model.specs.declared.kinds.Cap.{Cap}
@@ -12,7 +12,7 @@ use Rattle.model.specs.declared.kinds.Holder.TheVariants.{Mine, Listed}
 use Rattle.model.specs.declared.signals.Fault.{Fault}
 use Rattle.model.specs.declared.signals.Signal.TheVariants.{Sindex, Sgone, Srts, Sproc, Sstop, Sroom, Snames}
 use Rattle.model.specs.Signals.{fault}
-use Rattle.model.specs.Model.{Body, Task, World, Rule, mdfyrts, ucnfrts}
+use Rattle.model.specs.Model.{Body, Task, Rule, mdfyrts, ucnfrts}
 use Rattle.model.specs.Plan.{
   runs,
   task_runs,
@@ -52,27 +52,7 @@ use Rattle.model.specs.Plan.{
 }
 use Rattle.model.specs.Isolation.{If, Look}
 use Rattle.model.specs.Kalls.{on_rights, masked, changed}
-use Rattle.model.proofs.Safe.{
-  Setting,
-  Level,
-  inside,
-  outside,
-  anything,
-  level,
-  Side,
-  Fit,
-  Fits,
-  FitsSpaces,
-  Own,
-  OwnAt,
-  Near,
-  Inv,
-  On,
-  Sound,
-  bind,
-  pure,
-  branch,
-}
+use Rattle.model.proofs.Safe.{Setting, Level, inside, outside, anything, level, Side, Fit, Fits, FitsSpaces, Own, OwnAt, Near, On, Sound, bind, pure, branch}
 
 -- booleans
 pub both : {a c : Bool} → a ≡ true → c ≡ true → (a && c) ≡ true

@@ -9,31 +9,10 @@ use Rattle.model.specs.declared.kinds.Space.{Space}
 use Rattle.model.specs.declared.signals.Fault.{Fault}
 use Rattle.model.specs.Model.{Body, Task, Frame, World, Rule, Laws}
 use Rattle.model.specs.Kalls.{Outcome, Asked, run, serve, plan, answer_of, buffer_of, world_of}
-use Rattle.model.specs.Isolation.{
-  If,
-  Of,
-  Has,
-  HasSpace,
-  Holds,
-  Lists,
-  Lives,
-  Sight,
-  holding,
-  listing,
-  LookedAt,
-  AlikeTo,
-  Matches,
-  Match,
-  struck_out,
-  of_cast,
-  Guarded,
-  Always,
-  Isolated,
-  Isolates,
-}
+use Rattle.model.specs.Isolation.{If, Of, Has, HasSpace, Holds, Lists, Lives, Sight, holding, listing, LookedAt, AlikeTo, Matches, Match, struck_out, of_cast, Guarded, Always, Isolates}
 use Rattle.model.proofs.Opened.{Opened, unmade, held_house, listed_house}
-use Rattle.model.proofs.Safe.{Setting, Level, inside, level, Side, Fit, Fits, FitsSpaces, Own, Inv, Alike, AlikeAll, On, Sound}
-use Rattle.model.proofs.Edits.{alike_self, alike_sym, all_self, all_trans, edits_inv, edits_alike, edits_quiet}
+use Rattle.model.proofs.Safe.{Setting, Level, inside, level, Side, Fit, Fits, FitsSpaces, Own, Inv, Alike, AlikeAll, On}
+use Rattle.model.proofs.Edits.{alike_sym, all_self, all_trans, edits_inv, edits_alike, edits_quiet}
 use Rattle.model.proofs.Each.{Good, sound_plan}
 
 module _ (S : Setting) where

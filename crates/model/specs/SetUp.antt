@@ -14,7 +14,7 @@ use Rattle.model.specs.declared.signals.Fault.{Fault}
 use Rattle.model.specs.declared.signals.Signal.TheVariants.{Sproc, Sgone, Slim, Sroom}
 use Rattle.model.specs.Signals.{fault}
 use Rattle.model.specs.Model.{Body, Task, Frame, World, Rule}
-use Rattle.model.specs.Plan.{Plan, after, ◌>>=◌, ◌>>◌, limits, vacant, lives, new_number, code_ok, new_object}
+use Rattle.model.specs.Plan.{Plan, after, ◌>>◌, limits, vacant, lives, code_ok, new_object}
 use Rattle.model.specs.Kalls.{on_process, put_in, make, apply}
 use Rattle.model.specs.Isolation.{Holds, Lists}
 

@@ -1,19 +1,19 @@
-use Rattle.std.proofs.Common.{◌≡◌, ℕ, zero, suc, ◌+◌, ◌-◌, ◌*◌, ◌<◌, ◌≤◌, Bool, true, false, cond, ◌&&◌, eqb, ltb, leb, ◌≢◌, ◌⊎◌, List, [], ◌∷◌, length, get_or, take, drop, set, Some, None, Option, sym, refl, ap, ◌∙◌, subst, ap₂, inl, inr, ⊎_elim, arith, drop-cons, get_or-set_other, get_or-set_same, rules}
+use Rattle.std.proofs.Common.{◌≡◌, ℕ, zero, suc, ◌+◌, ◌-◌, ◌*◌, ◌<◌, ◌≤◌, Bool, true, false, cond, eqb, ◌≢◌, ◌⊎◌, List, [], ◌∷◌, length, get_or, take, drop, set, Some, None, Option, sym, refl, ap, ◌∙◌, subst, ap₂, inl, inr, ⊎_elim, arith, drop-cons, get_or-set_other, get_or-set_same}
 use mathlib.Core.Path.{fun_ext}
 use native.Mathlib.Nat.{min-le_left}
 use Rattle.std.proofs.lemmas.List.{length-take}
-use Rattle.std.proofs.lemmas.Bool.{eq-eqb, ne_eqb, eqb-true, eqb-false, cases_Bool, cases_eq, cases_lt, lt-ltb, and_parts, and_cases, and_from}
+use Rattle.std.proofs.lemmas.Bool.{eq-eqb, ne_eqb, eqb-true, cases_Bool, cases_eq, cases_lt, and_parts, and_from}
 use Rattle.std.proofs.lemmas.Bool.Decides.{nat_tests}
 use Rattle.model.specs.declared.kinds.Slot.{Slot}
 use Rattle.objects.specs.declared.kinds.Row.{Row}
 use Rattle.model.specs.Plan.{places}
-use Rattle.objects.specs.Places.{seek, row_at, place_of, base_of, free_row}
+use Rattle.objects.specs.Places.{seek, row_at, place_of, base_of}
 use Rattle.objects.specs.declared.kinds.Process.{Process}
 use Rattle.model.specs.declared.kinds.Slot.TheVariants.{Empty}
 use Rattle.model.specs.declared.kinds.Name.{Name}
-use Rattle.model.specs.Model.{Body, Frame}
+use Rattle.model.specs.Model.{Body}
 use Rattle.model.specs.Kalls.{same_name, on_object, lifted, relisted, put_listed}
-use Rattle.objects.specs.Abstract.{home_of, frame_of, process_of, object_of, living_of, count, body_at, body_from, lot}
+use Rattle.objects.specs.Abstract.{frame_of, process_of, object_of, living_of, count, body_at, body_from, lot}
 
 pub record Found (rows : List Row) (n k i p : ℕ) : Type 0 where
   pub number : (row_at rows p).number ≡ n

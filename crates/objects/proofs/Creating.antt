@@ -1,5 +1,5 @@
 -- A new object in the tables and on the shelf is one more object of the scene.
-use Rattle.std.proofs.Common.{◌≡◌, ℕ, ◌+◌, ◌<◌, ◌≤◌, Bool, true, false, cond, ◌&&◌, eqb, leb, List, [], length, IsErrAnd, Some, None, Ok, Err, Option, Result, sym, refl, ap, ◌∙◌, subst, ap₂, ⊎_elim, arith}
+use Rattle.std.proofs.Common.{◌≡◌, ℕ, ◌+◌, ◌<◌, ◌≤◌, Bool, true, false, cond, leb, List, length, IsErrAnd, Some, None, Ok, Err, Option, Result, sym, refl, ap, ◌∙◌, subst, ⊎_elim}
 use mathlib.Core.Path.{fun_ext}
 use Rattle.std.proofs.lemmas.Bool.{eq-eqb, ne_eqb, le-leb, lt-leb, cases_Bool, and_from}
 use Rattle.std.proofs.lemmas.Result.{err_from_is_err_and}
@@ -7,11 +7,11 @@ use Rattle.model.specs.declared.kinds.Name.{Name}
 use Rattle.model.specs.declared.signals.Fault.{Fault}
 use Rattle.model.specs.declared.signals.Signal.TheVariants.{Slim, Sroom, Snames}
 use Rattle.model.specs.Signals.{fault}
-use Rattle.model.specs.Model.{Frame, World}
+use Rattle.model.specs.Model.{Frame}
 use Rattle.model.specs.Plan.{places, new_number, new_object}
 use Rattle.model.specs.Kalls.{same_name, made, refilled, make, apply}
 use Rattle.model.specs.SetUp.{Creates}
-use Rattle.shelf.specs.Places.{is_place, with_place}
+use Rattle.shelf.specs.Places.{with_place}
 use Rattle.objects.specs.declared.tables.Tables.{Tables}
 use Rattle.objects.specs.declared.kinds.Spot.{Spot}
 use Rattle.objects.specs.Abstract.{frame, homes, homed, elements_at, world, Makes}

@@ -1,18 +1,17 @@
 -- An object ends: its place is unused, and every other name is where it was.
-use Rattle.std.proofs.Common.{◌≡◌, ℕ, zero, suc, ◌+◌, ◌-◌, ◌*◌, ◌<◌, ◌≤◌, Bool, true, false, cond, ◌&&◌, eqb, ◌≢◌, List, length, get_or, set, Some, None, Option, sym, refl, ap, ◌∙◌, subst, ap₂, ⊎_elim, arith, get_or-set_other, get_or-set_same}
+use Rattle.std.proofs.Common.{◌≡◌, ℕ, zero, suc, ◌+◌, ◌-◌, ◌*◌, ◌<◌, ◌≤◌, true, false, cond, eqb, List, length, get_or, set, Some, None, Option, sym, refl, ap, ◌∙◌, subst, ⊎_elim, arith, get_or-set_other, get_or-set_same}
 use mathlib.Core.Path.{fun_ext}
-use Rattle.std.proofs.lemmas.Bool.{eq-eqb, ne_eqb, eqb-true, cases_Bool, cases_eq, cases_lt}
+use Rattle.std.proofs.lemmas.Bool.{eq-eqb, ne_eqb, cases_Bool, cases_eq, cases_lt}
 use Rattle.model.specs.declared.kinds.Name.{Name}
 use Rattle.model.specs.declared.kinds.Slot.{Slot}
-use Rattle.model.specs.Model.{Body}
 use Rattle.model.specs.Plan.{places}
 use Rattle.model.specs.Kalls.{same_name, on_object, on_living, unmade}
 use Rattle.objects.specs.declared.kinds.Row.{Row}
 use Rattle.objects.specs.declared.kinds.Process.{Process}
 use Rattle.objects.specs.Places.{seek, row_at, place_of, base_of, free_row}
-use Rattle.objects.specs.Sound.{Bounded, Distinct, Twins}
+use Rattle.objects.specs.Sound.{Bounded, Distinct}
 use Rattle.objects.specs.Abstract.{frame_of, process_of, object_of, living_of, count, body_from, lot, on_shelf, home_of, unhomed}
-use Rattle.objects.proofs.Bodies.{Found, seek_found, seek_like, count_like, place_found, shares, both, not_both, one_place}
+use Rattle.objects.proofs.Bodies.{Found, seek_like, count_like, place_found, shares, both, not_both, one_place}
 
 -- nothing has the number
 seek_nowhere : (rows : List Row) (n k i : ℕ) → ((j : ℕ) → i ≤ j → j < i + k → (row_at rows j).number ≡ n → ⊥) → seek rows n k i ≡ None

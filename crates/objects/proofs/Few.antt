@@ -1,5 +1,5 @@
 -- What the limits of a type come to.
-use Rattle.std.proofs.Common.{◌≡◌, ℕ, ◌≤◌, cond, ◌&&◌, ◌||◌, eqb, leb, Ok, Result, sym, subst, arith}
+use Rattle.std.proofs.Common.{◌≡◌, ℕ, ◌≤◌, Ok, Result, sym, subst, arith}
 use Rattle.std.proofs.lemmas.Bool.Decides.{nat_tests}
 use Rattle.model.specs.declared.kinds.Limits.{Limits}
 use Rattle.model.specs.declared.signals.Fault.{Fault}

@@ -1,19 +1,18 @@
-use Rattle.std.proofs.Common.{◌≡◌, ℕ, zero, suc, ◌+◌, ◌-◌, ◌*◌, ◌<◌, ◌≤◌, Bool, true, false, cond, ◌&&◌, eqb, ltb, leb, ◌≢◌, ◌⊎◌, List, [], ◌∷◌, length, get_or, set, replicate, Some, None, Option, sym, refl, ap, ◌∙◌, subst, ap₂, inl, inr, ⊎_elim, arith, get_or-set_other, get_or-set_same}
+use Rattle.std.proofs.Common.{◌≡◌, ℕ, zero, suc, ◌+◌, ◌-◌, ◌*◌, ◌<◌, ◌≤◌, Bool, true, false, cond, eqb, ◌≢◌, ◌⊎◌, List, ◌∷◌, length, get_or, set, replicate, Some, None, Option, sym, refl, ap, ◌∙◌, subst, ap₂, inl, inr, ⊎_elim, arith, get_or-set_other, get_or-set_same}
 use mathlib.Core.Path.{fun_ext}
 use Rattle.std.proofs.lemmas.List.{length-set}
-use Rattle.std.proofs.lemmas.Bool.{eq-eqb, ne_eqb, eqb-true, eqb-false, cases_Bool, cases_eq, cases_lt, lt-ltb, le-leb, lt-leb, and_parts, and_cases, and_from}
+use Rattle.std.proofs.lemmas.Bool.{eq-eqb, ne_eqb, cases_Bool, cases_eq, cases_lt}
 use Rattle.std.proofs.lemmas.Bool.Decides.{nat_tests}
 use Rattle.model.specs.declared.kinds.Slot.{Slot}
 use Rattle.model.specs.declared.kinds.Slot.TheVariants.{Empty}
 use Rattle.model.specs.declared.kinds.Name.{Name}
-use Rattle.model.specs.Model.{Frame, Body}
 use Rattle.model.specs.Kalls.{same_name, on_object, on_living, on_given, fresh, made}
 use Rattle.objects.specs.declared.kinds.Row.{Row}
 use Rattle.objects.specs.declared.kinds.Process.{Process}
 use Rattle.model.specs.Plan.{places}
 use Rattle.objects.specs.Places.{seek, row_at, place_of, base_of, free_row}
-use Rattle.objects.specs.Sound.{Bounded, Distinct, Twins}
-use Rattle.objects.specs.Abstract.{frame_of, process_of, object_of, living_of, count, body_at, body_from, lot, wiped, on_shelf, home_of, homed}
+use Rattle.objects.specs.Sound.{Bounded, Distinct}
+use Rattle.objects.specs.Abstract.{frame_of, process_of, object_of, living_of, count, body_from, lot, wiped, on_shelf, home_of, homed}
 use Rattle.objects.proofs.Bodies.{Found, seek_found, seek_like, count_like, place_found, shares, both, not_both, lot_other}
 
 -- slots of a lot that is wiped

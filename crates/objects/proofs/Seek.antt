@@ -1,9 +1,9 @@
-use Rattle.std.proofs.Common.{◌≡◌, ℕ, zero, suc, ◌+◌, ◌-◌, ◌<◌, ◌≤◌, Bool, true, false, cond, eqb, List, [], ◌∷◌, length, get_or, set, Some, None, Option, sym, refl, ap, ◌∙◌, subst, arith}
+use Rattle.std.proofs.Common.{◌≡◌, ℕ, zero, suc, ◌+◌, ◌-◌, ◌<◌, List, Some, None, refl, arith}
 use Rattle.std.proofs.lemmas.Bool.{eq-eqb, ne_eqb}
 use Rattle.objects.specs.declared.kinds.Row.{Row}
 use Rattle.model.specs.Plan.{places}
 use Rattle.objects.specs.Abstract.{count}
-use Rattle.objects.specs.Places.{seek, row_at, place_of, base_of}
+use Rattle.objects.specs.Places.{seek, row_at, base_of}
 
 pub seek_none : (rows : List Row) (n k i : ℕ) → k ≡ 0 → seek rows n k i ≡ None
 unfolding seek

@@ -1,22 +1,19 @@
-use Rattle.std.proofs.Common.{◌≡◌, ℕ, zero, suc, ◌+◌, ◌-◌, ◌*◌, ◌<◌, ◌≤◌, Bool, true, false, cond, ◌&&◌, eqb, ltb, leb, ◌≢◌, ◌⊎◌, List, [], ◌∷◌, length, get_or, set, Some, None, Ok, Err, Option, Result, sym, refl, ap, ◌∙◌, subst, ap₂, inl, inr, ⊎_elim, arith, get_or-set_other, get_or-set_same}
+use Rattle.std.proofs.Common.{◌≡◌, ℕ, zero, suc, ◌-◌, ◌<◌, ◌≤◌, true, false, cond, ◌&&◌, eqb, leb, ◌≢◌, ◌⊎◌, List, [], ◌∷◌, length, get_or, set, Some, Ok, Err, sym, refl, ap, ◌∙◌, subst, ap₂, inl, inr, ⊎_elim, arith, get_or-set_other, get_or-set_same}
 use mathlib.Core.Path.{fun_ext}
-use Rattle.std.proofs.lemmas.Bool.{eq-eqb, ne_eqb, eqb-true, eqb-false, cases_Bool, cases_eq, cases_lt, lt-ltb, le-ltb, le-leb, leb-true, and_parts, and_cases, and_from}
-use Rattle.std.proofs.lemmas.Bool.Decides.{nat_tests}
+use Rattle.std.proofs.lemmas.Bool.{eq-eqb, ne_eqb, cases_Bool, cases_eq, lt-ltb, le-ltb, le-leb, leb-true, and_parts, and_from}
 use Rattle.model.specs.declared.kinds.Slot.{Slot}
 use Rattle.model.specs.declared.kinds.Slot.TheVariants.{Empty}
 use Rattle.model.specs.declared.signals.Signal.TheVariants.{Sindex}
-use Rattle.model.specs.declared.signals.Fault.{Fault}
 use Rattle.objects.specs.declared.kinds.State.{State}
 use Rattle.objects.specs.declared.kinds.State.TheVariants.{Absent, Running, Stopped}
 use Rattle.model.specs.declared.kinds.Space.{Space}
 use Rattle.objects.specs.declared.kinds.Row.{Row}
 use Rattle.objects.specs.declared.kinds.Process.{Process}
 use Rattle.objects.specs.Sound.{nobody, bare_space}
-use Rattle.model.specs.Model.{Task}
 use Rattle.model.specs.Signals.{fault}
 use Rattle.model.specs.Plan.{spaces_of, top_slot, top_slots}
 use Rattle.model.specs.Kalls.{put_top, lifted, respaced, on_process, put_own}
-use Rattle.objects.specs.Abstract.{frame_of, object_of, living_of, process_of, task_in, task_of, depth_in, task_depth, depth_of, newest}
+use Rattle.objects.specs.Abstract.{frame_of, object_of, living_of, process_of, task_in, depth_in, task_depth, depth_of, newest}
 
 task_spaces : (st : State) (p : Process) → spaces_of (task_in st p) ≡ newest p.spaces (depth_in st p)
 task_spaces Absent p = refl

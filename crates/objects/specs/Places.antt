@@ -1,6 +1,4 @@
-use Rattle.std.specs.Prelude.{◌≡◌, ℕ, zero, suc, ◌+◌, ◌-◌, ◌*◌, ◌<◌, ◌≤◌, Bool, true, false, cond, ◌&&◌, List, [], ◌∷◌, length, replicate, Some, None, Option, ◌==◌, slice_index_or}
-use Rattle.model.specs.declared.kinds.Slot.{Slot}
-use Rattle.model.specs.declared.kinds.Slot.TheVariants.{Empty, Capability, Template}
+use Rattle.std.specs.Prelude.{ℕ, zero, suc, ◌+◌, ◌*◌, ◌<◌, cond, List, Some, None, Option, ◌==◌, slice_index_or}
 use Rattle.model.specs.Plan.{places}
 use Rattle.objects.specs.declared.kinds.Row.{Row}
 

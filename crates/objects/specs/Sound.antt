@@ -1,7 +1,6 @@
-use Rattle.std.specs.Prelude.{◌≡◌, ℕ, ◌+◌, ◌-◌, ◌*◌, ◌<◌, ◌≤◌, List, [], ◌∷◌, length, replicate, slice_index, slice_index_or}
+use Rattle.std.specs.Prelude.{◌≡◌, ℕ, ◌+◌, ◌<◌, ◌≤◌, List, [], length, slice_index, slice_index_or}
 use Rattle.objects.specs.declared.kinds.Row.{Row}
-use Rattle.model.specs.declared.kinds.Slot.TheVariants.{Empty, Capability, Template}
-use Rattle.objects.specs.declared.kinds.State.TheVariants.{Absent, Running, Stopped}
+use Rattle.objects.specs.declared.kinds.State.TheVariants.{Absent}
 use Rattle.objects.specs.declared.kinds.Process.{Process}
 use Rattle.model.specs.declared.kinds.Space.{Space}
 use Rattle.model.specs.Plan.{places}

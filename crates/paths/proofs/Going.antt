@@ -1,5 +1,5 @@
 -- A walk, one index further. The position is from 1.
-use Rattle.std.proofs.Common.{◌≡◌, ℕ, ◌+◌, ◌-◌, ◌<◌, ◌≤◌, Bool, true, ◌&&◌, leb, List, ◌∷◌, length, get_or, drop, Ok, Err, Result, sym, ap, ◌∙◌, ⊎_elim, add-one, arith, drop-cons}
+use Rattle.std.proofs.Common.{◌≡◌, ℕ, ◌+◌, ◌-◌, ◌<◌, ◌≤◌, Bool, true, ◌&&◌, leb, List, ◌∷◌, length, get_or, drop, Ok, Err, Result, sym, ap, ⊎_elim, add-one, arith, drop-cons}
 use Rattle.std.proofs.lemmas.List.{drop_all}
 use Rattle.std.proofs.lemmas.Bool.{cases_Bool, leb-true, and_parts}
 use Rattle.model.specs.declared.signals.Fault.{Fault}

@@ -1,5 +1,6 @@
 // Plays a scene script from standard input, and prints what was done.
 #![tactic(auto)]
+
 mod element;
 mod header;
 mod kalls;
@@ -25,6 +26,7 @@ use shelf::packed::Packed;
 use shelf::rows::Rows;
 use std::io;
 use std::io::{BufWriter, Read, Write};
+use std::process::ExitCode;
 
 const CELLS: usize = 10240;
 
@@ -73,12 +75,12 @@ fn play_input(rt: &HostRuntime) -> Result<(), Stop> {
     }
 }
 
-fn main(rt: HostRuntime) -> Result<(), Stop> {
+fn main(rt: HostRuntime) -> ExitCode {
     match play_input(&rt) {
-        Ok(()) => Ok(()),
+        Ok(()) => ExitCode::SUCCESS,
         Err(stop) => {
             let _ = eprintln!(rt; "{stop}");
-            Err(stop)
+            ExitCode::FAILURE
         }
     }
 }

@@ -1,4 +1,4 @@
-use Rattle.std.proofs.Common.{◌≡◌, Err, refl, ap, ◌∙◌}
+use Rattle.std.proofs.Common.{Err, refl, ap, ◌∙◌}
 use Rattle.objects.specs.Abstract.{frame}
 use Rattle.objects.proofs.Creating.{created, not_filled, not_made, over_long}
 use Rattle.objects.proofs.fill.create.Goals as goal
@@ -7,16 +7,16 @@ pub returns-then-elements-gt64 : goal.returns-then-elements-gt64
 returns-then-elements-gt64 g c =
     (ap Err c.new.ensures ∙ over_long c.args.share c.args.elements.now (frame c.args.tables.now) c.if-elements-gt64.true, refl)
 
-pub returns-in-err-spot : goal.returns-in-err-spot
-returns-in-err-spot g c =
-    not_made c.args.tables.now c.make.new.self _ _ c.args.share c.args.kind c.args.elements.now c.if-elements-gt64.false _ _ c.from-residual.ensures.1 c.in-err-spot.ensures refl
+pub returns-in_err-spot : goal.returns-in_err-spot
+returns-in_err-spot g c =
+    not_made c.args.tables.now c.make.new.self _ _ c.args.share c.args.kind c.args.elements.now c.if-elements-gt64.false _ _ c.from_residual.ensures.1 c.in_err-spot.ensures refl
 
-pub returns-in-err-fill : goal.returns-in-err-fill
-returns-in-err-fill g c =
-    absurd (not_filled c.args.tables.now c.make.new.self (g.S.ReadableShelf.holds c.args.shelf.now) (g.S.ReadableShelf.holds c.args.shelf.now) c.args.share c.args.kind c.args.elements.now c.if-elements-gt64.false c.in-ok-spot.spot _
-    c.in-ok-spot.ensures c.in-err-fill.ensures.0)
+pub returns-in_err-fill : goal.returns-in_err-fill
+returns-in_err-fill g c =
+    absurd (not_filled c.args.tables.now c.make.new.self (g.S.ReadableShelf.holds c.args.shelf.now) (g.S.ReadableShelf.holds c.args.shelf.now) c.args.share c.args.kind c.args.elements.now c.if-elements-gt64.false c.in_ok-spot.spot _
+    c.in_ok-spot.ensures c.in_err-fill.ensures.0)
 
 pub returns : goal.returns
 returns g c =
-    created c.args.tables.now c.make.new.self (g.S.ReadableShelf.holds c.args.shelf.now) (g.S.ReadableShelf.holds c.fill.new.shelf) c.args.share c.args.kind c.args.elements.now c.if-elements-gt64.false c.in-ok-spot.spot
-    c.in-ok-spot.ensures c.in-ok-fill.ensures
+    created c.args.tables.now c.make.new.self (g.S.ReadableShelf.holds c.args.shelf.now) (g.S.ReadableShelf.holds c.fill.new.shelf) c.args.share c.args.kind c.args.elements.now c.if-elements-gt64.false c.in_ok-spot.spot
+    c.in_ok-spot.ensures c.in_ok-fill.ensures

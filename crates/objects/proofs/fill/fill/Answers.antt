@@ -1,4 +1,4 @@
-use Rattle.std.proofs.Common.{◌≡◌, ◌≤◌, Ok, Err, sym, refl, ap, ◌∙◌, arith}
+use Rattle.std.proofs.Common.{Err, sym, refl, ap, ◌∙◌, arith}
 use Rattle.objects.proofs.Filling.{too_long, no_place, emptied, one_more, no_refusal, all_there, refused}
 use Rattle.objects.proofs.fill.fill.Goals as goal
 
@@ -6,30 +6,30 @@ pub returns-then-elements-gt64 : goal.returns-then-elements-gt64
 returns-then-elements-gt64 g c =
     (ap Err c.new.ensures ∙ too_long c.args.place (g.S.ReadableShelf.holds c.args.shelf.now) c.args.elements.now c.if-elements-gt64.true, refl)
 
-pub returns-in-err-clear : goal.returns-in-err-clear
-returns-in-err-clear g c =
-    refused _ c.in-err-clear.field-0.0 _ _ _ c.from-residual.ensures.1
-    (no_place c.args.place (g.S.ReadableShelf.holds c.args.shelf.now) c.args.elements.now _ c.in-err-clear.ensures.0)
-    c.in-err-clear.ensures.1
+pub returns-in_err-clear : goal.returns-in_err-clear
+returns-in_err-clear g c =
+    refused _ c.in_err-clear.field-0.0 _ _ _ c.from_residual.ensures.1
+    (no_place c.args.place (g.S.ReadableShelf.holds c.args.shelf.now) c.args.elements.now _ c.in_err-clear.ensures.0)
+    c.in_err-clear.ensures.1
 
 pub loop-element-init : goal.loop-element-init
-loop-element-init g c = emptied c.args.place (g.S.ReadableShelf.holds c.args.shelf.now) (g.S.ReadableShelf.holds c.clear.new.self) c.in-ok-clear.ensures
+loop-element-init g c = emptied c.args.place (g.S.ReadableShelf.holds c.args.shelf.now) (g.S.ReadableShelf.holds c.clear.new.self) c.in_ok-clear.ensures
 
-pub returns-in-err-append : goal.returns-in-err-append
-returns-in-err-append g c =
+pub returns-in_err-append : goal.returns-in_err-append
+returns-in_err-append g c =
     absurd (no_refusal c.args.place (g.S.ReadableShelf.holds c.clear.new.self) c.args.elements.now c.loop-element.element-index c.element-item.result
     c.loop-element.invariant.0 c.if-elements-gt64.false c.loop-element-test.true (sym c.element-item.is)
-    (g.S.ReadableShelf.holds c.loop-element.shelf) c.loop-element.invariant.1 _ c.in-err-append.ensures.0)
+    (g.S.ReadableShelf.holds c.loop-element.shelf) c.loop-element.invariant.1 _ c.in_err-append.ensures.0)
 
 pub loop-element-preserved : goal.loop-element-preserved
 loop-element-preserved g c = (
   c.loop-element.invariant.0,
   one_more c.args.place (g.S.ReadableShelf.holds c.clear.new.self) c.args.elements.now c.loop-element.element-index c.element-item.result
       c.loop-element.invariant.0 c.if-elements-gt64.false c.loop-element-test.true (sym c.element-item.is)
-      (g.S.ReadableShelf.holds c.loop-element.shelf) c.loop-element.invariant.1 _ c.in-ok-append.ensures,
+      (g.S.ReadableShelf.holds c.loop-element.shelf) c.loop-element.invariant.1 _ c.in_ok-append.ensures,
 )
 
 pub returns : goal.returns
 returns g c =
     all_there c.args.place (g.S.ReadableShelf.holds c.args.shelf.now) c.args.elements.now c.loop-element.element-index (g.S.ReadableShelf.holds c.clear.new.self) _
-    c.in-ok-clear.ensures c.if-elements-gt64.false (omega arith) c.loop-element.invariant.1
+    c.in_ok-clear.ensures c.if-elements-gt64.false (omega arith) c.loop-element.invariant.1

@@ -11,14 +11,14 @@ pub returns-then-k-eq-PROCEDURE : goal.returns-then-k-eq-PROCEDURE
 unfolding limits
 returns-then-k-eq-PROCEDURE c = grind (arith, nat_tests)
 
-pub returns-in-default-3 : goal.returns-in-default-3
+pub returns-in_default-3 : goal.returns-in_default-3
 unfolding limits
-returns-in-default-3 c = grind (arith, nat_tests)
+returns-in_default-3 c = grind (arith, nat_tests)
 
 pub returns-in-2 : goal.returns-in-2
 unfolding limits
 returns-in-2 c = grind (arith, nat_tests)
 
-pub returns-in-2·2 : goal.returns-in-2·2
+pub returns-in-2-2 : goal.returns-in-2-2
 unfolding limits
-returns-in-2·2 c = grind (arith, nat_tests)
+returns-in-2-2 c = grind (arith, nat_tests)

@@ -1,4 +1,4 @@
-use Rattle.std.proofs.Common.{◌≡◌, sym, rules}
+use Rattle.std.proofs.Common.{rules}
 use Rattle.objects.proofs.Few.{few_slots}
 use Rattle.objects.proofs.limits.room.Goals as goal
 

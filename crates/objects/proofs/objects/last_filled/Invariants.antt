@@ -1,4 +1,4 @@
-use Rattle.std.proofs.Common.{◌≡◌, ◌≤◌, length, take}
+use Rattle.std.proofs.Common.{◌≡◌, ◌≤◌, take}
 use Rattle.model.specs.Plan.{last_filled}
 use Rattle.objects.proofs.objects.last_filled.Given as goal
 

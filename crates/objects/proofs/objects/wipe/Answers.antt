@@ -1,5 +1,4 @@
-use Rattle.std.proofs.Common.{◌≡◌, ℕ, ◌+◌, ◌-◌, ◌*◌, sym, refl, ap, ◌∙◌, arith, rules}
-use Rattle.objects.specs.Abstract.{wiped}
+use Rattle.std.proofs.Common.{◌≡◌, ◌+◌, ◌*◌, sym, ◌∙◌, arith}
 use Rattle.objects.proofs.Making.{wiped_step, wiped_end}
 use Rattle.objects.proofs.objects.wipe.Goals as goal
 

@@ -1,4 +1,4 @@
-use Rattle.std.proofs.Common.{◌≡◌, ℕ, suc, ◌+◌, ◌<◌, ◌≤◌, Bool, true, false, ◌&&◌, List, [], ◌∷◌, length, get_or, drop, sym, refl, ap, ◌∙◌, add-one, arith, drop-cons}
+use Rattle.std.proofs.Common.{◌≡◌, ℕ, ◌+◌, ◌<◌, ◌&&◌, List, length, get_or, drop, sym, refl, ◌∙◌, add-one, arith, drop-cons}
 use Rattle.std.proofs.lemmas.List.{drop_all}
 use Rattle.model.specs.Model.{Rule}
 use Rattle.model.specs.Plan.{grants_all}
@@ -10,16 +10,16 @@ here r code xs i h = rw (add-one, drop-cons xs i 0)
 pub loop-right-init : goal.loop-right-init
 loop-right-init g c = refl
 
-pub returns-then-not-does-grant : goal.returns-then-not-does-grant
-returns-then-not-does-grant g c =
+pub returns-then-not-does_grant : goal.returns-then-not-does_grant
+returns-then-not-does_grant g c =
     let e = here g.R.RightsRule.rule c.args.code c.args.rights.now c.loop-right.right-index c.loop-right-test.true in
-    let f = c.if-not-does-grant.ensures in
+    let f = c.if-not-does_grant.ensures in
     rw (← f) at (sym e ∙ c.loop-right.invariant)
 
 pub loop-right-preserved : goal.loop-right-preserved
 loop-right-preserved g c =
     let e = here g.R.RightsRule.rule c.args.code c.args.rights.now c.loop-right.right-index c.loop-right-test.true in
-    let f = c.if-not-does-grant.ensures in
+    let f = c.if-not-does_grant.ensures in
     rw (← f) at (sym e ∙ c.loop-right.invariant)
 
 pub returns : goal.returns

@@ -1,15 +1,14 @@
-use Rattle.std.proofs.Common.{◌≡◌, sym, refl, ap, ◌∙◌, arith, rules}
-use Rattle.std.proofs.lemmas.Bool.Decides.{nat_tests}
+use Rattle.std.proofs.Common.{rules}
 use Rattle.model.specs.Plan.{enter}
 use Rattle.paths.proofs.slots.enter.Goals as goal
 
-pub returns-in-err-running : goal.returns-in-err-running
+pub returns-in_err-running : goal.returns-in_err-running
 unfolding enter
-returns-in-err-running g c = search rules
+returns-in_err-running g c = search rules
 
-pub returns-in-err-mask-ok : goal.returns-in-err-mask-ok
+pub returns-in_err-mask_ok : goal.returns-in_err-mask_ok
 unfolding enter
-returns-in-err-mask-ok g c = search rules
+returns-in_err-mask_ok g c = search rules
 
 pub returns : goal.returns
 unfolding enter

@@ -1,19 +1,18 @@
-use Rattle.std.proofs.Common.{◌≡◌, sym, refl, ap, ◌∙◌, arith, rules}
-use Rattle.std.proofs.lemmas.Bool.Decides.{nat_tests}
+use Rattle.std.proofs.Common.{rules}
 use Rattle.model.specs.Plan.{held}
 use Rattle.paths.proofs.slots.held.Goals as goal
 
-pub returns-in-err-slot : goal.returns-in-err-slot
+pub returns-in_err-slot : goal.returns-in_err-slot
 unfolding held
-returns-in-err-slot g c = search rules
+returns-in_err-slot g c = search rules
 
 pub returns-in-Empty : goal.returns-in-Empty
 unfolding held
 returns-in-Empty g c = search rules
 
-pub returns-then-not-grants-all : goal.returns-then-not-grants-all
+pub returns-then-not-grants_all : goal.returns-then-not-grants_all
 unfolding held
-returns-then-not-grants-all g c = search rules
+returns-then-not-grants_all g c = search rules
 
 pub returns : goal.returns
 unfolding held

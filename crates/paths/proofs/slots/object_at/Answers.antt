@@ -1,19 +1,18 @@
-use Rattle.std.proofs.Common.{◌≡◌, sym, refl, ap, ◌∙◌, arith, rules}
-use Rattle.std.proofs.lemmas.Bool.Decides.{nat_tests}
+use Rattle.std.proofs.Common.{rules}
 use Rattle.model.specs.Plan.{object_at}
 use Rattle.paths.proofs.slots.object_at.Goals as goal
 
-pub returns-in-err-reach : goal.returns-in-err-reach
+pub returns-in_err-reach : goal.returns-in_err-reach
 unfolding object_at
-returns-in-err-reach g c = search rules
+returns-in_err-reach g c = search rules
 
-pub returns-then-not-is-living : goal.returns-then-not-is-living
+pub returns-then-not-is_living : goal.returns-then-not-is_living
 unfolding object_at
-returns-then-not-is-living g c = search rules
+returns-then-not-is_living g c = search rules
 
-pub returns-then-not-grants-all : goal.returns-then-not-grants-all
+pub returns-then-not-grants_all : goal.returns-then-not-grants_all
 unfolding object_at
-returns-then-not-grants-all g c = search rules
+returns-then-not-grants_all g c = search rules
 
 pub returns-in-Empty : goal.returns-in-Empty
 unfolding object_at
@@ -23,6 +22,6 @@ pub returns-in-Template : goal.returns-in-Template
 unfolding object_at
 returns-in-Template g c = search rules
 
-pub returns-else-not-grants-all : goal.returns-else-not-grants-all
+pub returns-else-not-grants_all : goal.returns-else-not-grants_all
 unfolding object_at
-returns-else-not-grants-all g c = search rules
+returns-else-not-grants_all g c = search rules

@@ -9,16 +9,16 @@ returns g c =
     let h = g.S.ReadableShelf.holds c.args.shelf.now in
     let part = elements_at h (homes c.args.tables.now c.args.name) in
     let n = c.min-count.result in
-    let lies : g.S.ReadableShelf.holds c.part-length-length.new.shelf c.in-Some.place ≡ part =
-    ap (λ (f : ℕ → List E). f c.in-Some.place) c.part-length-length.ensures.same ∙
+    let lies : g.S.ReadableShelf.holds c.part_length-length.new.shelf c.in-Some.place ≡ part =
+    ap (λ (f : ℕ → List E). f c.in-Some.place) c.part_length-length.ensures.same ∙
     ap (elements_at h) c.in-Some.ensures.value
     in
     record {
-      same = c.copy.ensures.same ∙ c.part-length-length.ensures.same;
+      same = c.copy.ensures.same ∙ c.part_length-length.ensures.same;
       value =
           block_read part c.args.buffer.now c.copy.new.buffer c.args.disp c.args.knt n
           (omega arith) (omega arith) (omega arith) (omega arith)
-          (c.min-count.ensures ∙ ap (λ (m : ℕ). min c.args.knt (m - (c.args.disp - 1))) c.part-length-length.ensures.value)
+          (c.min-count.ensures ∙ ap (λ (m : ℕ). min c.args.knt (m - (c.args.disp - 1))) c.part_length-length.ensures.value)
           (c.copy.ensures.value ∙ ap (λ (xs : List E). take n (drop (c.args.disp - 1) xs) ++ drop n c.args.buffer.now) lies);
       bound = omega arith;
     }

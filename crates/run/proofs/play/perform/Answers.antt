@@ -1,7 +1,7 @@
 use Rattle.std.proofs.Common.{◌≡◌, ℕ, List, ◌++◌, length, take, drop, vec_items, sym, ap, ◌∙◌, ap₂, rules}
 use lib.Seq.{take-append_seam}
 use Rattle.model.specs.declared.kinds.Kall.{Kall}
-use Rattle.model.specs.Kalls.{Reply, replied, plan, kall_getdata}
+use Rattle.model.specs.Kalls.{replied, plan, kall_getdata}
 use Rattle.objects.specs.Abstract.{world}
 use Rattle.run.proofs.play.perform.Goals as goal
 
@@ -17,5 +17,5 @@ returns-in-Getdata g c =
     let kept : take c.args.buffer.now.len (ys ++ drop (length ys) c.args.buffer.now.items) ≡ ys = rw n (take-append_seam ys (drop (length ys) c.args.buffer.now.items)) in
     ap (λ (b : List g.row.S-Element.Denot). record { answer = c.getdata.result; buffer = b; after = world c.getdata.new.scene.tables (g.S.ReadableShelf.holds c.getdata.new.shelf) }) kept
     ∙ c.getdata.ensures
-    ∙ ap₂ (λ (zs : List g.row.S-Element.Denot) (path : List ℕ). replied p zs w (kall_getdata rule p path c.in-Getdata.disp c.in-Getdata.knt zs w)) c.as-mut-slice.ensures.value c.as-slice-in-Getdata.ensures.value
+    ∙ ap₂ (λ (zs : List g.row.S-Element.Denot) (path : List ℕ). replied p zs w (kall_getdata rule p path c.in-Getdata.disp c.in-Getdata.knt zs w)) c.as_mut_slice.ensures.value c.as_slice-in-Getdata.ensures.value
     ∙ ap (λ (k : Kall). replied p xs w (plan rule p k xs w)) (sym c.in-Getdata.is)

@@ -1,4 +1,4 @@
-use Rattle.std.proofs.Common.{◌≡◌, ◌++◌, map, length, take, drop}
+use Rattle.std.proofs.Common.{◌≡◌, ◌++◌, map, take, drop}
 use Rattle.objects.specs.Abstract.{world}
 use Rattle.run.specs.Play.{view, played, afterwards}
 use Rattle.run.proofs.play.serve_all.Given as goal

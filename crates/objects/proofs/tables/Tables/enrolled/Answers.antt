@@ -11,6 +11,6 @@ pub returns-in-Absent : goal.returns-in-Absent
 unfolding process_of
 returns-in-Absent c = grind (arith, nat_tests)
 
-pub returns-in-default : goal.returns-in-default
+pub returns-in_default : goal.returns-in_default
 unfolding process_of
-returns-in-default c = grind (arith, nat_tests)
+returns-in_default c = grind (arith, nat_tests)

@@ -1,4 +1,3 @@
-use Rattle.std.proofs.Common.{◌≡◌, sym, refl, ap}
 use Rattle.objects.proofs.Bodies.{object_none, object_some}
 use Rattle.objects.proofs.tables.Tables.is_living.Goals as goal
 

@@ -1,4 +1,4 @@
-use Rattle.std.proofs.Common.{◌≡◌, Ok, ap, ◌∙◌, arith, rules}
+use Rattle.std.proofs.Common.{Ok, ap, ◌∙◌, arith}
 use Rattle.model.specs.Plan.{length_of, last_filled}
 use Rattle.objects.proofs.Spaces.{top_none, top_some}
 use Rattle.objects.proofs.tables.Tables.length.Goals as goal
@@ -12,6 +12,6 @@ pub returns : goal.returns
 unfolding length_of
 returns c =
     record {
-      value = ap Ok c.space-length.ensures.value ∙ ap (λ l. Ok (last_filled l)) (top_some _ _ _ c.depth-depth.ensures.value c.if-depth-eq0.false);
-      bound = c.space-length.ensures.bound;
+      value = ap Ok c.space_length.ensures.value ∙ ap (λ l. Ok (last_filled l)) (top_some _ _ _ c.depth-depth.ensures.value c.if-depth-eq0.false);
+      bound = c.space_length.ensures.bound;
     }

@@ -5,9 +5,9 @@ use Rattle.model.specs.Plan.{list_length, list_of, last_filled}
 use Rattle.objects.proofs.Bodies.{object_none, object_some, lot_eight, eight_long}
 use Rattle.objects.proofs.tables.Tables.list_length.Goals as goal
 
-pub returns-in-default : goal.returns-in-default
+pub returns-in_default : goal.returns-in_default
 unfolding list_length last_filled
-returns-in-default c = record { value = rw (object_none c.args.self.now.objects c.args.self.now.slots c.args.name c.in-default.ensures.value); bound = omega arith }
+returns-in_default c = record { value = rw (object_none c.args.self.now.objects c.args.self.now.slots c.args.name c.in_default.ensures.value); bound = omega arith }
 
 pub returns : goal.returns
 unfolding list_length

@@ -1,5 +1,5 @@
-use Rattle.std.proofs.Common.{◌≡◌, ◌+◌, ◌-◌, sym, ap, ◌∙◌, arith}
-use Rattle.objects.specs.Abstract.{living_of, count}
+use Rattle.std.proofs.Common.{◌≡◌, ◌+◌, ◌-◌, arith}
+use Rattle.objects.specs.Abstract.{living_of}
 use Rattle.objects.proofs.Seek.{count_used, count_unused, count_none, count_all}
 use Rattle.objects.proofs.tables.Tables.living.Goals as goal
 use Rattle.objects.proofs.tables.Tables.living.Goals.{then-self-i-ne0, else-self-i-ne0}

@@ -1,4 +1,4 @@
-use Rattle.std.proofs.Common.{◌≡◌, ℕ, ◌+◌, ◌*◌, ◌<◌, ◌≤◌, length, set, refl, arith, rules}
+use Rattle.std.proofs.Common.{◌≡◌, ◌<◌, length, refl, arith, rules}
 use Rattle.objects.proofs.Bodies.{put_frame, put_none, put_past}
 use Rattle.objects.proofs.tables.Tables.put.Goals as goal
 
@@ -11,5 +11,5 @@ returns-then-index-lt8 c =
 pub returns-else-index-lt8 : goal.returns-else-index-lt8
 returns-else-index-lt8 c = record { after = put_past _ _ _ _ _ _ _ c.if-index-lt8.false; homes = refl }
 
-pub returns-in-default : goal.returns-in-default
-returns-in-default c = record { after = put_none _ _ _ _ _ _ _ c.in-default.ensures.value; homes = refl }
+pub returns-in_default : goal.returns-in_default
+returns-in_default c = record { after = put_none _ _ _ _ _ _ _ c.in_default.ensures.value; homes = refl }

@@ -1,7 +1,4 @@
-use Rattle.std.proofs.Common.{◌≡◌, ℕ, ◌+◌, ◌-◌, ◌<◌, ◌≤◌, Bool, true, false, cond, ◌&&◌, eqb, ltb, leb, ◌⊎◌, List, [], ◌∷◌, length, get_or, set, sym, refl, ap, ◌∙◌, subst, inl, inr, ⊎_elim, arith, rules}
-use mathlib.Core.Path.{fun_ext}
-use Rattle.std.proofs.lemmas.Bool.Decides.{nat_tests}
-use Rattle.objects.specs.Sound.{nobody}
+use Rattle.std.proofs.Common.{◌≡◌, ◌-◌, length, refl, inl, inr, ⊎_elim, arith, rules}
 use Rattle.objects.proofs.Spaces.{own_put, own_put_none, depth_under}
 use Rattle.objects.proofs.tables.Tables.put_own.Goals as goal
 

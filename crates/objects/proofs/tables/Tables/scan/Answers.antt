@@ -1,7 +1,4 @@
-use Rattle.std.proofs.Common.{◌≡◌, ℕ, ◌+◌, ◌-◌, ◌<◌, ◌≤◌, true, false, eqb, sym, refl, ap, ◌∙◌, subst, arith, rules}
-use Rattle.std.proofs.lemmas.Bool.{ne_eqb}
-use Rattle.model.specs.Plan.{places}
-use Rattle.objects.specs.Places.{seek, row_at, place_of, base_of}
+use Rattle.std.proofs.Common.{◌≡◌, ◌+◌, ◌-◌, sym, refl, ◌∙◌, arith, rules}
 use Rattle.objects.proofs.Seek.{seek_none, seek_here, seek_next, seek_all}
 use Rattle.objects.proofs.tables.Tables.scan.Goals as goal
 

@@ -1,11 +1,11 @@
-use Rattle.std.proofs.Common.{◌≡◌, ◌*◌, Err, sym, refl, ap, arith}
+use Rattle.std.proofs.Common.{◌*◌, Err, ap, arith}
 use Rattle.std.proofs.lemmas.Bool.{lt-ltb, le-ltb}
 use Rattle.objects.proofs.Bodies.{object_none, object_some, lot_at}
 use Rattle.objects.proofs.tables.Tables.slot.Goals as goal
 
-pub returns-in-default : goal.returns-in-default
-returns-in-default c =
-    let o = object_none c.args.self.now.objects c.args.self.now.slots c.args.name c.in-default.ensures.value in rw o (ap Err c.new.ensures)
+pub returns-in_default : goal.returns-in_default
+returns-in_default c =
+    let o = object_none c.args.self.now.objects c.args.self.now.slots c.args.name c.in_default.ensures.value in rw o (ap Err c.new.ensures)
 
 pub returns-then-index-room : goal.returns-then-index-room
 returns-then-index-room c =

@@ -13,7 +13,7 @@ returns-in-Err c =
 pub loop-process-preserved : goal.loop-process-preserved
 loop-process-preserved c =
     let e : 9 - c.loop-process.process - 1 ≡ 9 - (c.loop-process.process + 1) = omega arith in
-    let step = enrol_next (process_of c.args.self.now.processes) (9 - c.loop-process.process) c.loop-process.process _ (omega arith) c.in-default.ensures in
+    let step = enrol_next (process_of c.args.self.now.processes) (9 - c.loop-process.process) c.loop-process.process _ (omega arith) c.in_default.ensures in
     rw e at (sym step) ∙ c.loop-process.invariant
 
 pub returns : goal.returns

@@ -1,4 +1,4 @@
-use Rattle.std.proofs.Common.{◌≡◌, ◌-◌, ◌≤◌}
+use Rattle.std.proofs.Common.{◌≡◌, ◌-◌}
 use Rattle.model.specs.SetUp.{unenrolled}
 use Rattle.objects.specs.Abstract.{process_of}
 use Rattle.objects.proofs.tables.Tables.unenrolled.Given as goal

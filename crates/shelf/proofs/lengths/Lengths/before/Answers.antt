@@ -5,8 +5,8 @@ use Rattle.shelf.specs.Places.{most}
 use Rattle.shelf.proofs.Summing.{before_more, before_most, before_fits}
 use Rattle.shelf.proofs.lengths.Lengths.before.Goals as goal
 
-pub overflow-add-sum : goal.overflow-add-sum
-overflow-add-sum c =
+pub overflow_add-sum : goal.overflow_add-sum
+overflow_add-sum c =
     let ls = c.args.self.now.table in
     let i = c.loop-n.n-index in
     let more = before_more ls i in

@@ -4,21 +4,21 @@ use Rattle.shelf.proofs.Packing.{pack_size, pack_cleared, pack_ends}
 use Rattle.shelf.specs.Kept.{Shifted, packed}
 use Rattle.shelf.proofs.packed.PackedWritableShelf.clear.Goals as goal
 
-pub returns-in-err-n : goal.returns-in-err-n
-returns-in-err-n g c =
+pub returns-in_err-n : goal.returns-in_err-n
+returns-in_err-n g c =
     let self = c.args.self.now in
     let ls = self.lengths.table in
     let xs = self.cells.now in
     let p = c.args.place in
-    cleared_no (packed ls xs) ls p (pack_size ls xs self.lengths.short self.enough p) _ _ c.from-residual.ensures.1 c.in-err-n.ensures
+    cleared_no (packed ls xs) ls p (pack_size ls xs self.lengths.short self.enough p) _ _ c.from_residual.ensures.1 c.in_err-n.ensures
 
-pub shift-down-requires : goal.shift-down-requires
-shift-down-requires g c =
+pub shift_down-requires : goal.shift_down-requires
+shift_down-requires g c =
     let self = c.args.self.now in
     let ls = self.lengths.table in
     let xs = self.cells.now in
     let p = c.args.place in
-    let t = told _ _ _ c.in-ok-n.ensures in
+    let t = told _ _ _ c.in_ok-n.ensures in
     let ends = pack_ends ls xs self.lengths.short self.enough self.lengths.whole p t.0 in
     (omega arith, (omega (arith, ends, t.1, c.before-start.ensures.sum, c.total-total.ensures.sum), c.total-total.ensures.fits))
 
@@ -28,11 +28,11 @@ returns g c =
     let ls = self.lengths.table in
     let xs = self.cells.now in
     let p = c.args.place in
-    let n = c.in-ok-n.n in
+    let n = c.in_ok-n.n in
     let s = c.before-start.result in
-    let after = c.shift-down.new.self in
-    let t = told _ _ _ c.in-ok-n.ensures in
-    let m = subst (λ (to : ℕ). Shifted (s + n) to (s + n - n) xs after.cells.now) c.total-total.ensures.sum c.shift-down.ensures.cells in
-    cleared_yes (packed ls xs) ls p (pack_size ls xs self.lengths.short self.enough p) n (packed after.lengths.table after.cells.now) c.in-ok-n.ensures
-    (ap (λ (l : List ℕ). packed l after.cells.now) (c.shift-down.ensures.lengths ∙ c.set.ensures) ∙
+    let after = c.shift_down.new.self in
+    let t = told _ _ _ c.in_ok-n.ensures in
+    let m = subst (λ (to : ℕ). Shifted (s + n) to (s + n - n) xs after.cells.now) c.total-total.ensures.sum c.shift_down.ensures.cells in
+    cleared_yes (packed ls xs) ls p (pack_size ls xs self.lengths.short self.enough p) n (packed after.lengths.table after.cells.now) c.in_ok-n.ensures
+    (ap (λ (l : List ℕ). packed l after.cells.now) (c.shift_down.ensures.lengths ∙ c.set.ensures) ∙
     pack_cleared ls xs self.lengths.short self.enough self.lengths.whole p t.0 s n after.cells.now c.before-start.ensures.sum t.1 m)

@@ -5,15 +5,15 @@ use Rattle.shelf.proofs.Rowing.{row_size}
 use Rattle.shelf.specs.Kept.{row, rows}
 use Rattle.shelf.proofs.rows.RowsReadableShelf.element.Goals as goal
 
-pub returns-in-err-at : goal.returns-in-err-at
-returns-in-err-at g c =
+pub returns-in_err-at : goal.returns-in_err-at
+returns-in_err-at g c =
     let self = c.args.self.now in
     let ls = self.lengths.table in
     let xs = self.cells.now in
     let p = c.args.place in
     record {
       same = refl;
-      answer = element_no (rows ls xs) ls p (row_size ls xs self.lengths.short self.enough p) c.args.index _ _ c.from-residual.ensures.1 c.in-err-at.ensures;
+      answer = element_no (rows ls xs) ls p (row_size ls xs self.lengths.short self.enough p) c.args.index _ _ c.from_residual.ensures.1 c.in_err-at.ensures;
     }
 
 pub returns : goal.returns
@@ -22,12 +22,12 @@ returns g c =
     let ls = self.lengths.table in
     let xs = self.cells.now in
     let p = c.args.place in
-    let at = c.in-ok-at.at in
-    let t = index_told ls p c.args.index at c.in-ok-at.ensures in
+    let at = c.in_ok-at.at in
+    let t = index_told ls p c.args.index at c.in_ok-at.ensures in
     let x = c.index-self-place.result in
     record {
       same = refl;
       answer = ap Ok (sym c.index-self-place.is) ∙
-          element_yes (rows ls xs) ls p (row_size ls xs self.lengths.short self.enough p) c.args.index at x c.in-ok-at.ensures
+          element_yes (rows ls xs) ls p (row_size ls xs self.lengths.short self.enough p) c.args.index at x c.in_ok-at.ensures
           (read_laid row ls xs p t.place at x t.below c.index-self-place.is);
     }
