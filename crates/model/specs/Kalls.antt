@@ -74,6 +74,10 @@ made s kind f = on_living s (λ k. k + 1) (on_given s (λ k. k + 1) (on_object (
 unfoldable pub refilled : {E : Type 0} → Name → List E → (Name → List E) → Name → List E
 refilled n xs h = λ m. cond (same_name m n) xs (h m)
 
+-- an object ends, and its list
+abbrev pub unmade : Name → Frame → Frame
+unmade n f = on_living n.share (λ k. k - 1) (on_object n (λ o. None) f)
+
 -- what is done to a scene, p being the caller: a slot is put at an index from 1, an object of p's share is made with its elements
 pub data Edit (E : Type 0) : Type 0 where
   put : Holder → ℕ → Slot → Edit E

@@ -4,6 +4,7 @@ pub mod Bodies
 pub mod Fresh
 pub mod Spaces
 pub mod Making
+pub mod Ending
 pub mod Filled
 pub mod Enrolling
 pub mod Housed

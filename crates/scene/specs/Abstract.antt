@@ -11,7 +11,8 @@ use Rattle.model.specs.declared.kinds.Name.{Name}
 use Rattle.model.specs.declared.signals.Fault.{Fault}
 use Rattle.model.specs.Model.{Frame, Body, Task, World}
 use Rattle.model.specs.Plan.{new_number, places}
-use Rattle.model.specs.Kalls.{same_name, made}
+use Rattle.model.specs.Kalls.{same_name, made, unmade}
+use Rattle.model.specs.SetUp.{living}
 use Rattle.scene.specs.declared.kinds.Spot.{Spot}
 use Rattle.scene.specs.Places.{place_of, row_at, base_of}
 use Rattle.scene.specs.Sound.{nobody, bare_space}
@@ -112,3 +113,12 @@ Makes s kind t t' (Ok m) =
     (homes t' ≡ homed (record { share = s; number = m.number }) m.place (homes t)) × ((n : Name) → Some m.place ≢ homes t n) ×
     (1 ≤ m.place) × (m.place ≤ 160)
 Makes s kind t t' (Err e) = (Err e ≡ new_number s (frame t)) × (frame t' ≡ frame t) × (homes t' ≡ homes t)
+
+-- a name's elements lie nowhere any more
+unfoldable pub unhomed : Name → (Name → Option ℕ) → Name → Option ℕ
+unhomed n h = λ m. cond (same_name m n) None (h m)
+
+-- what ending an object answers and does
+abbrev pub Ends : Name → Tables → Tables → Result ℕ Fault → Type 0
+Ends n t t' (Ok x) = (Ok x ≡ living n (frame t)) × (frame t' ≡ unmade n (frame t)) × (homes t' ≡ unhomed n (homes t))
+Ends n t t' (Err e) = (Err e ≡ living n (frame t)) × (frame t' ≡ frame t) × (homes t' ≡ homes t)

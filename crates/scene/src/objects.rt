@@ -5,7 +5,7 @@ ghost use Rattle.model.specs.Plan.{slot_of, own_slot, slot_at, runs, vacant, liv
 ghost use Rattle.model.specs.Kalls.{put_own, put_listed, put_in};
 ghost use Rattle.model.specs.SetUp.{bare, unenrolled, enrol, enrolled, owned, living, Sets};
 ghost use Rattle.scene.specs.Places.{base_of, seek, place_of, Within};
-ghost use Rattle.scene.specs.Abstract.{frame, homes, OnAShelf, process_of, living_of, depth_of, wiped, Makes};
+ghost use Rattle.scene.specs.Abstract.{frame, homes, OnAShelf, process_of, living_of, depth_of, wiped, Makes, Ends};
 
 use crate::kinds::{Row, Spot, State};
 use crate::limits::room;
@@ -222,6 +222,17 @@ impl Tables {
             return 0;
         };
         last_filled(&self.slots[8 * place..8 * place + 8])
+    }
+
+    // The object and its list end, and its place serves again.
+    pub fn end(&mut self, name: Name) -> Result<u32, Fault>
+        ensures { Ends name self.old self.new result }
+    {
+        let Some(place) = self.find(name) else {
+            return Err(Fault::new(Signal::Sgone, 0));
+        };
+        self.objects[place] = FREE;
+        Ok(0)
     }
 
     // The slot after a list's length, by its index from 1.
