@@ -35,8 +35,7 @@ def labels(function):
     for loop in function["loops"]:
         yield loop[0][1]
     yield from strings(function["places_by_name"])
-    for kind in ("params",):
-        yield from (n.split("::")[-1] for n in function[kind])
+    yield from (name.split("::")[-1] for name in function["params"])
 
 
 def folded(name):
@@ -44,6 +43,7 @@ def folded(name):
 
 
 def turn(path, today):
+    """Turns one file, and returns whether it changed and which names fit more than one label."""
     by_fold = {}
     for name in today:
         for form in (name, name[:1].lower() + name[1:]):
@@ -54,10 +54,6 @@ def turn(path, today):
 
     def one(m):
         old = m[0]
-        prefix = ""
-        for p in ("goal.", ""):
-            if old.startswith(p):
-                break
         fits = by_fold.get(folded(old), set())
         if not fits or old in fits:
             return old
@@ -65,7 +61,7 @@ def turn(path, today):
         if len(fits) != 1:
             said.add(f"{path}: {old}: {sorted(fits)}")
             return old
-        return prefix + fits[0]
+        return fits[0]
 
     out = TOKEN.sub(one, text)
     if out != text:
