@@ -112,7 +112,7 @@ count_more rows rows' p (suc k) i z nz h a b =
     rw same (cond_suc (eqb (row_at rows i).number 0) (count rows k (suc i)) (suc (count rows k (suc i))) (count rows' k (suc i)) (suc (count rows' k (suc i))) more (ap suc more)))
     (cases_eq i p)
 
-module _ (rows : List Row) (slots : List Slot) (given : List ℕ) (s p k g : ℕ) (is-g : g ≡ get_or given s 0) (free : Some p ≡ seek rows 0 (places s) (base_of s)) (bounded : Bounded rows given) (long : length rows ≡ 160) (wide : length given ≡ 9) (big : length slots ≡ 1280) where
+module _ (rows : List Row) (slots : List Slot) (given : List ℕ) (s p k g : ℕ) (is_g : g ≡ get_or given s 0) (free : Some p ≡ seek rows 0 (places s) (base_of s)) (bounded : Bounded rows given) (long : length rows ≡ 160) (wide : length given ≡ 9) (big : length slots ≡ 1280) where
   new_row : Row
   new_row = record { number = g + 1; kind = k }
 
@@ -225,7 +225,7 @@ module _ (rows : List Row) (slots : List Slot) (given : List ℕ) (s p k g : ℕ
   new_given : (s' : ℕ) → get_or (set given s (g + 1)) s' 0 ≡ cond (eqb s' s) (get_or given s' 0 + 1) (get_or given s' 0)
   new_given s' =
       ⊎_elim
-      (λ (t : s' ≡ s). rw (eq-eqb s' s t, t, get_or-set_same given s (g + 1) 0 (omega (arith, share_small))) (ap (λ (x : ℕ). x + 1) is-g))
+      (λ (t : s' ≡ s). rw (eq-eqb s' s t, t, get_or-set_same given s (g + 1) 0 (omega (arith, share_small))) (ap (λ (x : ℕ). x + 1) is_g))
       (λ (t : s' ≡ s → ⊥). rw (ne_eqb s' s t, get_or-set_other given s s' (g + 1) 0 t))
       (cases_eq s' s)
 
@@ -272,7 +272,7 @@ module _ (rows : List Row) (slots : List Slot) (given : List ℕ) (s p k g : ℕ
   unfolding new_row new_rows on_object on_living on_given
   new_frame ps = λ j. record {
     object = fun_ext {f = object_of new_rows new_slots} {g = λ m. cond (same_name m (record { share = s; number = get_or given s 0 + 1 })) (fresh k) (object_of rows slots m)}
-        (λ m. new_object m ∙ ap (λ (x : ℕ). cond (same_name m (record { share = s; number = x + 1 })) (fresh k) (object_of rows slots m)) is-g) j;
+        (λ m. new_object m ∙ ap (λ (x : ℕ). cond (same_name m (record { share = s; number = x + 1 })) (fresh k) (object_of rows slots m)) is_g) j;
     living = fun_ext {f = living_of new_rows} {g = λ t. cond (eqb t s) (living_of rows t + 1) (living_of rows t)} new_living j;
     given = fun_ext {f = λ s'. get_or (set given s (g + 1)) s' 0} {g = λ t. cond (eqb t s) (get_or given t 0 + 1) (get_or given t 0)} new_given j;
     process = process_of ps;
