@@ -5,6 +5,4 @@ use Rattle.scene.proofs.setup.SetUp.enrol.Goals as goal
 pub invariant_of-self : goal.invariant_of-self
 invariant_of-self g c =
     let up = c.args.self.now in
-    let house =
-    enrol_housed c.enrol.result (frame up.tables) _ _ _ (record { objects = up.objects; held = up.held; listed = up.listed }) c.enrol.ensures in
-    record { objects = house.objects; held = house.held; listed = house.listed }
+    enrol_housed c.enrol.result (frame up.tables) _ _ _ (record { objects = up.objects; held = up.held; listed = up.listed }) c.enrol.ensures

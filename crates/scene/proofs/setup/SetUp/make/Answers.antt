@@ -5,6 +5,4 @@ use Rattle.scene.proofs.setup.SetUp.make.Goals as goal
 pub invariant_of-self : goal.invariant_of-self
 invariant_of-self g c =
     let up = c.args.self.now in
-    let house =
-    create_housed c.create.result _ _ (world up.tables (g.S.ReadableShelf.holds c.args.shelf.now)) _ (record { objects = up.objects; held = up.held; listed = up.listed }) c.create.ensures in
-    record { objects = house.objects; held = house.held; listed = house.listed }
+    create_housed c.create.result _ _ (world up.tables (g.S.ReadableShelf.holds c.args.shelf.now)) _ (record { objects = up.objects; held = up.held; listed = up.listed }) c.create.ensures

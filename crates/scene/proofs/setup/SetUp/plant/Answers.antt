@@ -7,7 +7,5 @@ use Rattle.scene.proofs.setup.SetUp.plant.Goals as goal
 pub invariant_of-self : goal.invariant_of-self
 invariant_of-self g c =
     let up = c.args.self.now in
-    let house =
     housed _ _ c.put_in.ensures.after
-    (opened_put (record { objects = up.objects; held = up.held; listed = up.listed }) _ (capability_slot _ (ap (λ (n : Name). n.share) c.house-2.ensures)) _ _ _) in
-    record { objects = house.objects; held = house.held; listed = house.listed }
+    (opened_put (record { objects = up.objects; held = up.held; listed = up.listed }) _ (capability_slot _ (ap (λ (n : Name). n.share) c.house-2.ensures)) _ _ _)

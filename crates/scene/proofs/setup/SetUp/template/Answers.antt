@@ -5,7 +5,5 @@ use Rattle.scene.proofs.setup.SetUp.template.Goals as goal
 pub invariant_of-self : goal.invariant_of-self
 invariant_of-self g c =
     let up = c.args.self.now in
-    let house =
     housed _ _ c.put_in.ensures.after
-    (opened_put (record { objects = up.objects; held = up.held; listed = up.listed }) _ (template_slot _) _ _ _) in
-    record { objects = house.objects; held = house.held; listed = house.listed }
+    (opened_put (record { objects = up.objects; held = up.held; listed = up.listed }) _ (template_slot _) _ _ _)
