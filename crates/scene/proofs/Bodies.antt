@@ -46,6 +46,13 @@ seek_like rows rows' n (suc k) i h =
     let more : seek rows n k (suc i) ≡ seek rows' n k (suc i) = seek_like rows rows' n k (suc i) (λ j a b. h j (omega arith) (omega arith)) in
     rw (here, more)
 
+-- nothing has the number
+pub seek_nowhere : (rows : List Row) (n k i : ℕ) → ((j : ℕ) → i ≤ j → j < i + k → (row_at rows j).number ≡ n → ⊥) → seek rows n k i ≡ None
+unfolding seek
+seek_nowhere rows n zero i h = refl
+seek_nowhere rows n (suc k) i h =
+    rw (ne_eqb (row_at rows i).number n (h i (omega arith) (omega arith))) (seek_nowhere rows n k (suc i) (λ j a b. h j (omega arith) (omega arith)))
+
 pub count_like : (rows rows' : List Row) (k i : ℕ) → ((j : ℕ) → i ≤ j → j < i + k → eqb (row_at rows j).number 0 ≡ eqb (row_at rows' j).number 0) → count rows k i ≡ count rows' k i
 unfolding count
 count_like rows rows' zero i h = refl
@@ -63,6 +70,30 @@ place_found rows s n p e =
 
 pub shares : (s s' p : ℕ) → base_of s ≤ p → p < base_of s + places s → base_of s' ≤ p → p < base_of s' + places s' → s ≡ s'
 shares s s' p a b c d = grind (arith, nat_tests)
+
+-- two tables of rows that differ at the place p alone: a name that is at neither row there lies where it was
+pub place_like : (rows rows' : List Row) (s n p : ℕ) → ((j : ℕ) → (j ≡ p → ⊥) → (row_at rows' j).number ≡ (row_at rows j).number)
+    → (base_of s ≤ p → p < base_of s + places s → (n ≡ 0 → ⊥) → ((row_at rows' p).number ≡ n → ⊥) × ((row_at rows p).number ≡ n → ⊥))
+    → place_of rows' s n ≡ place_of rows s n
+place_like rows rows' s n p kept off =
+    ⊎_elim
+    (λ (z : n ≡ 0). rw (eq-eqb n 0 z))
+    (λ (z : n ≡ 0 → ⊥). rw (ne_eqb n 0 z) (seek_like rows' rows n (places s) (base_of s) (λ j a b.
+    ⊎_elim
+    (λ (q : j ≡ p).
+    let o = off (subst (λ (x : ℕ). base_of s ≤ x) q a) (subst (λ (x : ℕ). x < base_of s + places s) q b) z in
+    rw q (ne_eqb (row_at rows' p).number n o.0 ∙ sym (ne_eqb (row_at rows p).number n o.1)))
+    (λ (q : j ≡ p → ⊥). ap (λ (x : ℕ). eqb x n) (kept j q))
+    (cases_eq j p))))
+    (cases_eq n 0)
+
+-- and another share than that of the place has as many living
+pub living_like : (rows rows' : List Row) (s t p : ℕ) → ((j : ℕ) → (j ≡ p → ⊥) → (row_at rows' j).number ≡ (row_at rows j).number)
+    → base_of s ≤ p → p < base_of s + places s → (t ≡ s → ⊥) → living_of rows' t ≡ living_of rows t
+unfolding living_of
+living_like rows rows' s t p kept low high other =
+    count_like rows' rows (places t) (base_of t) (λ j a b.
+    ap (λ (x : ℕ). eqb x 0) (kept j (λ q. other (shares t s p (subst (λ (x : ℕ). base_of t ≤ x) q a) (subst (λ (x : ℕ). x < base_of t + places t) q b) low high))))
 
 pub inside : (rows : List Row) (p n : ℕ) → (row_at rows p).number ≡ n → (n ≡ 0 → ⊥) → p < length rows
 inside [] p n e h = absurd (h (sym e))

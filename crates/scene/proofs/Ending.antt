@@ -1,5 +1,5 @@
 -- An object ends: its place is unused, and every other name is where it was.
-use Rattle.std.proofs.Common.{◌≡◌, ℕ, zero, suc, ◌+◌, ◌-◌, ◌*◌, ◌<◌, ◌≤◌, true, false, cond, eqb, List, length, get_or, set, Some, None, Option, sym, refl, ap, ◌∙◌, subst, ⊎_elim, arith, get_or-set_other, get_or-set_same}
+use Rattle.std.proofs.Common.{◌≡◌, ℕ, ◌+◌, ◌-◌, ◌*◌, ◌<◌, ◌≤◌, false, cond, eqb, List, length, get_or, set, Some, None, Option, sym, refl, ap, ◌∙◌, ⊎_elim, arith, get_or-set_other, get_or-set_same}
 use mathlib.Core.Path.{fun_ext}
 use Rattle.std.proofs.lemmas.Bool.{eq-eqb, ne_eqb, cases_Bool, cases_eq, cases_lt}
 use Rattle.model.specs.declared.kinds.Name.{Name}
@@ -8,34 +8,11 @@ use Rattle.model.specs.Plan.{places}
 use Rattle.model.specs.Kalls.{same_name, on_object, on_living, unmade}
 use Rattle.scene.specs.declared.kinds.Row.{Row}
 use Rattle.scene.specs.declared.kinds.Process.{Process}
-use Rattle.scene.specs.Places.{seek, row_at, place_of, base_of, free_row}
+use Rattle.scene.specs.Places.{row_at, place_of, base_of, free_row}
 use Rattle.scene.specs.Sound.{Bounded, Distinct}
-use Rattle.scene.specs.Abstract.{frame_of, process_of, object_of, living_of, count, body_from, lot, on_shelf, home_of, unhomed}
-use Rattle.scene.proofs.Bodies.{Found, seek_like, count_like, place_found, shares, both, not_both, one_place}
-
--- nothing has the number
-seek_nowhere : (rows : List Row) (n k i : ℕ) → ((j : ℕ) → i ≤ j → j < i + k → (row_at rows j).number ≡ n → ⊥) → seek rows n k i ≡ None
-unfolding seek
-seek_nowhere rows n zero i h = refl
-seek_nowhere rows n (suc k) i h =
-    rw (ne_eqb (row_at rows i).number n (h i (omega arith) (omega arith))) (seek_nowhere rows n k (suc i) (λ j a b. h j (omega arith) (omega arith)))
-
--- one place fewer is in use
-count_fewer : (rows rows' : List Row) (p k i : ℕ) → ((row_at rows p).number ≡ 0 → ⊥) → (row_at rows' p).number ≡ 0 → ((j : ℕ) → (j ≡ p → ⊥) → (row_at rows' j).number ≡ (row_at rows j).number) → i ≤ p → p < i + k → suc (count rows' k i) ≡ count rows k i
-unfolding count
-count_fewer rows rows' p zero i nz z h a b = absurd (omega arith)
-count_fewer rows rows' p (suc k) i nz z h a b =
-    ⊎_elim
-    (λ (q : i ≡ p).
-    let is : eqb (row_at rows' i).number 0 ≡ true = eq-eqb (row_at rows' i).number 0 (subst (λ (x : ℕ). (row_at rows' x).number ≡ 0) (sym q) z) in
-    let ne : eqb (row_at rows i).number 0 ≡ false = ne_eqb (row_at rows i).number 0 (subst (λ (x : ℕ). (row_at rows x).number ≡ 0 → ⊥) (sym q) nz) in
-    let same : count rows' k (suc i) ≡ count rows k (suc i) = count_like rows' rows k (suc i) (λ j x y. let w : j ≡ p → ⊥ = omega arith in ap (λ (m : ℕ). eqb m 0) (h j w)) in
-    rw (is, ne, same))
-    (λ (q : i ≡ p → ⊥).
-    let same : eqb (row_at rows' i).number 0 ≡ eqb (row_at rows i).number 0 = ap (λ (m : ℕ). eqb m 0) (h i q) in
-    let more : suc (count rows' k (suc i)) ≡ count rows k (suc i) = count_fewer rows rows' p k (suc i) nz z h (omega arith) (omega arith) in
-    rw same (⊎_elim (λ t. rw t more) (λ t. rw t (ap suc more)) (cases_Bool (eqb (row_at rows i).number 0))))
-    (cases_eq i p)
+use Rattle.scene.specs.Abstract.{frame_of, process_of, object_of, living_of, body_from, lot, on_shelf, home_of, unhomed}
+use Rattle.scene.proofs.Making.{count_more}
+use Rattle.scene.proofs.Bodies.{Found, seek_nowhere, place_found, place_like, living_like, shares, both, not_both, one_place}
 
 module _ (rows : List Row) (slots : List Slot) (given : List ℕ) (n : Name) (p : ℕ) (free : Row) (is_free : free.number ≡ 0) (at : Some p ≡ place_of rows n.share n.number) (distinct : Distinct rows) (long : length rows ≡ 160) (small : p < 160) where
   rows' : List Row
@@ -79,18 +56,8 @@ module _ (rows : List Row) (slots : List Slot) (given : List ℕ) (n : Name) (p 
   -- every other name is where it was
   place_old : (m : Name) → same_name m n ≡ false → place_of rows' m.share m.number ≡ place_of rows m.share m.number
   place_old m t =
-      ⊎_elim
-      (λ (z : m.number ≡ 0). rw (eq-eqb m.number 0 z))
-      (λ (z : m.number ≡ 0 → ⊥). rw (ne_eqb m.number 0 z) (seek_like rows' rows m.number (places m.share) (base_of m.share) (λ j a b.
-      ⊎_elim
-      (λ (q : j ≡ p).
-      let e : m.share ≡ n.share = shares m.share n.share p (subst (λ (x : ℕ). base_of m.share ≤ x) q a) (subst (λ (x : ℕ). x < base_of m.share + places m.share) q b) found.low found.high in
-      let l : eqb (row_at rows' j).number m.number ≡ false = ne_eqb (row_at rows' j).number m.number (λ y. z (sym y ∙ ap (λ (x : ℕ). (row_at rows' x).number) q ∙ freed)) in
-      let r : eqb (row_at rows j).number m.number ≡ false = ne_eqb (row_at rows j).number m.number (λ y. not_both m n t e (sym y ∙ ap (λ (x : ℕ). (row_at rows x).number) q ∙ found.number)) in
-      l ∙ sym r)
-      (λ (q : j ≡ p → ⊥). ap (λ (x : ℕ). eqb x m.number) (kept j q))
-      (cases_eq j p))))
-      (cases_eq m.number 0)
+      place_like rows rows' m.share m.number p kept
+      (λ a b z. (λ y. z (sym y ∙ freed), λ y. not_both m n t (shares m.share n.share p a b found.low found.high) (sym y ∙ found.number)))
 
   body_old : (m : Name) (o : Option ℕ) → same_name m n ≡ false → place_of rows m.share m.number ≡ o → body_from rows' slots o ≡ body_from rows slots o
   body_old m None t e = refl
@@ -120,9 +87,8 @@ module _ (rows : List Row) (slots : List Slot) (given : List ℕ) (n : Name) (p 
   unfolding living_of
   end_living s =
       ⊎_elim
-      (λ (t : s ≡ n.share). rw (eq-eqb s n.share t, t) (let e = count_fewer rows rows' p (places n.share) (base_of n.share) (λ y. named (sym found.number ∙ y)) freed kept found.low found.high in omega arith))
-      (λ (t : s ≡ n.share → ⊥). rw (ne_eqb s n.share t) (count_like rows' rows (places s) (base_of s) (λ j a b.
-      ap (λ (x : ℕ). eqb x 0) (kept j (λ q. t (shares s n.share p (subst (λ (x : ℕ). base_of s ≤ x) q a) (subst (λ (x : ℕ). x < base_of s + places s) q b) found.low found.high))))))
+      (λ (t : s ≡ n.share). rw (eq-eqb s n.share t, t) (let e = count_more rows' rows p (places n.share) (base_of n.share) freed (λ y. named (sym found.number ∙ y)) (λ j q. sym (kept j q)) found.low found.high in omega arith))
+      (λ (t : s ≡ n.share → ⊥). rw (ne_eqb s n.share t) (living_like rows rows' n.share s p kept found.low found.high t))
       (cases_eq s n.share)
 
   fewer : (j : ℕ) → (row_at rows' j).number ≤ (row_at rows j).number

@@ -13,6 +13,7 @@ use Rattle.scene.specs.declared.kinds.Process.{Process}
 use Rattle.scene.specs.Places.{row_at, seek, place_of, base_of}
 use Rattle.scene.specs.Sound.{nobody}
 use Rattle.scene.specs.Abstract.{count, object_of, living_of, process_of, frame_of, body_from, task_in}
+use Rattle.scene.proofs.Bodies.{seek_nowhere}
 
 pub fresh : (k : ℕ) (r : Row) → r.number ≡ 0 → (i : ℕ) → (row_at (replicate k r) i).number ≤ 0
 fresh zero r e i = omega arith
@@ -31,9 +32,7 @@ shelved (suc k) r e (suc i) = shelved k r e i
 
 -- nothing is found among unused places
 seek_fresh : (rows : List Row) → ((i : ℕ) → (row_at rows i).number ≤ 0) → (n k i : ℕ) → (n ≡ 0 → ⊥) → seek rows n k i ≡ None
-unfolding seek
-seek_fresh rows h n zero i z = refl
-seek_fresh rows h n (suc k) i z = rw (ne_eqb (row_at rows i).number n (λ e. z (omega (arith, h i)))) (seek_fresh rows h n k (suc i) z)
+seek_fresh rows h n k i z = seek_nowhere rows n k i (λ j a b e. z (omega (arith, h j, e)))
 
 count_fresh : (rows : List Row) → ((i : ℕ) → (row_at rows i).number ≤ 0) → (k i : ℕ) → count rows k i ≡ 0
 unfolding count

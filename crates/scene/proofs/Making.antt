@@ -13,7 +13,7 @@ use Rattle.model.specs.Plan.{places}
 use Rattle.scene.specs.Places.{seek, row_at, place_of, base_of, free_row}
 use Rattle.scene.specs.Sound.{Bounded, Distinct}
 use Rattle.scene.specs.Abstract.{frame_of, process_of, object_of, living_of, count, body_from, lot, wiped, on_shelf, home_of, homed}
-use Rattle.scene.proofs.Bodies.{Found, seek_found, seek_like, count_like, place_found, shares, both, not_both, lot_other}
+use Rattle.scene.proofs.Bodies.{Found, seek_found, count_like, place_found, place_like, living_like, shares, both, not_both, lot_other}
 
 -- slots of a lot that is wiped
 below_wiped : (xs : List Slot) (c k b : ℕ) → b < c → get_or (wiped xs c k) b Empty ≡ get_or xs b Empty
@@ -96,7 +96,7 @@ cond_suc true x y x' y' e f = e
 cond_suc false x y x' y' e f = f
 
 -- one more place is in use
-count_more : (rows rows' : List Row) (p k i : ℕ) → (row_at rows p).number ≡ 0 → ((row_at rows' p).number ≡ 0 → ⊥) → ((j : ℕ) → (j ≡ p → ⊥) → (row_at rows' j).number ≡ (row_at rows j).number) → i ≤ p → p < i + k → count rows' k i ≡ suc (count rows k i)
+pub count_more : (rows rows' : List Row) (p k i : ℕ) → (row_at rows p).number ≡ 0 → ((row_at rows' p).number ≡ 0 → ⊥) → ((j : ℕ) → (j ≡ p → ⊥) → (row_at rows' j).number ≡ (row_at rows j).number) → i ≤ p → p < i + k → count rows' k i ≡ suc (count rows k i)
 unfolding count
 count_more rows rows' p zero i z nz h a b = absurd (omega arith)
 count_more rows rows' p (suc k) i z nz h a b =
@@ -155,18 +155,8 @@ module _ (rows : List Row) (slots : List Slot) (given : List ℕ) (s p k g : ℕ
   -- every other name is where it was
   place_old : (s' n' : ℕ) → (s' ≡ s → n' ≡ g + 1 → ⊥) → place_of new_rows s' n' ≡ place_of rows s' n'
   place_old s' n' h =
-      ⊎_elim
-      (λ (z : n' ≡ 0). rw (eq-eqb n' 0 z))
-      (λ (z : n' ≡ 0 → ⊥). rw (ne_eqb n' 0 z) (seek_like new_rows rows n' (places s') (base_of s') (λ j a b.
-      ⊎_elim
-      (λ (q : j ≡ p).
-      let e : s' ≡ s = shares s' s p (subst (λ (x : ℕ). base_of s' ≤ x) q a) (subst (λ (x : ℕ). x < base_of s' + places s') q b) found.low found.high in
-      let l : eqb (row_at new_rows j).number n' ≡ false = ne_eqb (row_at new_rows j).number n' (λ y. h e (sym (sym number_new ∙ ap (λ (x : ℕ). (row_at new_rows x).number) (sym q) ∙ y))) in
-      let r : eqb (row_at rows j).number n' ≡ false = ne_eqb (row_at rows j).number n' (λ y. z (sym (sym found.number ∙ ap (λ (x : ℕ). (row_at rows x).number) (sym q) ∙ y))) in
-      l ∙ sym r)
-      (λ (q : j ≡ p → ⊥). ap (λ (x : ℕ). eqb x n') (number_other j q))
-      (cases_eq j p))))
-      (cases_eq n' 0)
+      place_like rows new_rows s' n' p number_other
+      (λ a b z. (λ y. h (shares s' s p a b found.low found.high) (sym y ∙ number_new), λ y. z (sym y ∙ found.number)))
 
   abbrev new_slots : List Slot
   new_slots = wiped slots (8 * p) 8
@@ -218,8 +208,7 @@ module _ (rows : List Row) (slots : List Slot) (given : List ℕ) (s p k g : ℕ
   new_living s' =
       ⊎_elim
       (λ (t : s' ≡ s). rw (eq-eqb s' s t, t) (let e = count_more rows new_rows p (places s) (base_of s) found.number (λ y. let q : g + 1 ≡ 0 = sym number_new ∙ y in omega arith) number_other found.low found.high in omega arith))
-      (λ (t : s' ≡ s → ⊥). rw (ne_eqb s' s t) (count_like new_rows rows (places s') (base_of s') (λ j a b.
-      ap (λ (x : ℕ). eqb x 0) (number_other j (λ q. t (shares s' s p (subst (λ (x : ℕ). base_of s' ≤ x) q a) (subst (λ (x : ℕ). x < base_of s' + places s') q b) found.low found.high))))))
+      (λ (t : s' ≡ s → ⊥). rw (ne_eqb s' s t) (living_like rows new_rows s s' p number_other found.low found.high t))
       (cases_eq s' s)
 
   new_given : (s' : ℕ) → get_or (set given s (g + 1)) s' 0 ≡ cond (eqb s' s) (get_or given s' 0 + 1) (get_or given s' 0)
