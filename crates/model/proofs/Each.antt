@@ -26,12 +26,13 @@ use Rattle.model.specs.Kalls.{
   kall_pass,
   kall_take,
   kall_store,
+  appended,
   appending,
   kall_delete,
   kall_interchange,
   plan,
 }
-use Rattle.model.proofs.Safe.{Setting, level, Fit, On, Sound, bind, pure, branch, weaken}
+use Rattle.model.proofs.Safe.{Setting, level, Fit, OwnAt, On, Sound, bind, pure, branch, weaken}
 use Rattle.model.proofs.Views.{
   here,
   kept_by,
@@ -135,16 +136,22 @@ module _ {E : Type 0} (S : Setting) (b : Bool) (p : ℕ) (c : S.cast p ≡ b) wh
       bind (sound_vacant p c _ _ k.place) λ _ _.
       pure (Ok _) ((k.own tt tt, fit_stored S (level b true) mask s f), tt))
 
-  sound_appending : (ks : List ℕ) (ch : Change) (es : List (Edit E)) (path : List ℕ) (cur : ℕ) (mask : Option ℕ)
-      → ((s : Slot) → Fit S (level b true) s → Fit S (level b true) (changed S.rule ch s)) → AdmitsAll S b p es
-      → Sound {E = E} S b (λ w. appending S.rule p ks ch es path cur mask w.frame) GoodPlain
-  sound_appending ks ch es path cur mask fit also =
+  sound_appended : (ks path : List ℕ) (cur : ℕ) (mask : Option ℕ)
+      → Sound {E = E} S b (λ w. appended S.rule p ks path cur mask w.frame) (λ a. OwnAt S b a.1.holder × Fit S (level b true) a.0)
+  sound_appended ks path cur mask =
       bind (sound_enter p c _ _) λ _ _.
       bind (sound_held p c _ _ _ here) λ s f.
       bind (sound_walk p c _ _ path) λ t k.
       bind (sound_object_at p c _ _ _ k.place) λ x h.
       bind (sound_next_slot x.name (kept_by b h)) λ i _.
-      pure (Ok _) ((owned_by k h tt tt tt, fit s f), also)
+      pure (Ok _) (owned_by k h tt tt tt, f)
+
+  sound_appending : (ks : List ℕ) (ch : Change) (es : List (Edit E)) (path : List ℕ) (cur : ℕ) (mask : Option ℕ)
+      → ((s : Slot) → Fit S (level b true) s → Fit S (level b true) (changed S.rule ch s)) → AdmitsAll S b p es
+      → Sound {E = E} S b (λ w. appending S.rule p ks ch es path cur mask w.frame) GoodPlain
+  sound_appending ks ch es path cur mask fit also =
+      bind (sound_appended ks path cur mask) λ a h.
+      pure (Ok _) ((h.0, fit a.0 h.1), also)
 
   sound_delete : (path : List ℕ) → Sound {E = E} S b (λ w. kall_delete S.rule p path w.frame) GoodPlain
   sound_delete path =
@@ -166,11 +173,11 @@ module _ {E : Type 0} (S : Setting) (b : Bool) (p : ℕ) (c : S.cast p ≡ b) wh
   sound_plan (Clenth path) xs = plainly (sound_clenth (vec_items path))
   sound_plan (Dlenth path) xs = plainly (sound_dlenth (vec_items path))
   sound_plan (Getdata path disp knt) xs = sound_getdata (vec_items path) disp knt xs
-  sound_plan (Load new path) xs = plainly (sound_load new (vec_items path))
-  sound_plan (Pass path cur mask) xs = plainly (sound_pass (vec_items path) cur mask)
-  sound_plan (Take new path) xs = plainly (sound_take new (vec_items path))
-  sound_plan (Store path cur mask) xs = plainly (sound_store (vec_items path) cur mask)
-  sound_plan (Append path cur mask) xs = plainly (sound_appending _ (Stored mask) [] (vec_items path) cur mask (fit_stored S (level b true) mask) tt)
-  sound_plan (Passappend path cur mask) xs = plainly (sound_appending _ (Moved mask) _ (vec_items path) cur mask (fit_moved S (level b true) mask) ((tt, tt), tt))
+  sound_plan (Load k) xs = plainly (sound_load k.new (vec_items k.path))
+  sound_plan (Pass k) xs = plainly (sound_pass (vec_items k.path) k.cur k.mask)
+  sound_plan (Take k) xs = plainly (sound_take k.new (vec_items k.path))
+  sound_plan (Store k) xs = plainly (sound_store (vec_items k.path) k.cur k.mask)
+  sound_plan (Append k) xs = plainly (sound_appending _ (Stored k.mask) [] (vec_items k.path) k.cur k.mask (fit_stored S (level b true) k.mask) tt)
+  sound_plan (Passappend k) xs = plainly (sound_appending _ (Moved k.mask) _ (vec_items k.path) k.cur k.mask (fit_moved S (level b true) k.mask) ((tt, tt), tt))
   sound_plan (Delete path) xs = plainly (sound_delete (vec_items path))
-  sound_plan (Interchange path cur mask) xs = plainly (sound_interchange (vec_items path) cur mask)
+  sound_plan (Interchange k) xs = plainly (sound_interchange (vec_items k.path) k.cur k.mask)

@@ -1,6 +1,6 @@
 -- What a plan can read, each thing sound.
 use Rattle.std.proofs.Common.{◌≡◌, ℕ, zero, suc, ◌+◌, ◌-◌, Bool, true, false, cond, ◌&&◌, T, eqb, ltb, List, [], ◌∷◌, length, get_or, set, replicate, Some, None, Ok, Err, Option, Result, sym, refl, ap, ◌∙◌, subst, inl, inr, lit≤, eqb→eq}
-use mathlib.Core.Bool.{false≢true}
+use Rattle.std.proofs.lemmas.Bool.{and_from, and_parts, false≢true}
 use Rattle.model.specs.declared.kinds.Name.{Name}
 use Rattle.model.specs.declared.kinds.Cap.{Cap}
 use Rattle.model.specs.declared.kinds.Slot.{Slot}
@@ -49,18 +49,6 @@ use Rattle.model.specs.Isolation.{If, Look}
 use Rattle.model.specs.Kalls.{on_rights, masked, changed}
 use Rattle.model.proofs.Safe.{Setting, Level, inside, outside, anything, level, Side, Fit, Fits, FitsSpaces, Own, OwnAt, Near, On, Sound, bind, pure, branch}
 
--- booleans
-pub both : {a c : Bool} → a ≡ true → c ≡ true → (a && c) ≡ true
-both p q = rw (p, q)
-
-pub left : (a c : Bool) → (a && c) ≡ true → a ≡ true
-left true c e = refl
-left false c e = e
-
-pub right : (a c : Bool) → (a && c) ≡ true → c ≡ true
-right true c e = e
-right false c e = absurd (false≢true e)
-
 -- the right k is among those that a list asks for
 abbrev pub asks : ℕ → List ℕ → Bool
 asks k [] = false
@@ -69,10 +57,10 @@ asks k (j ∷ l) = cond (eqb j k) true (asks k l)
 pub granted : (rule : Rule) (r k : ℕ) (l : List ℕ) → T (asks k l) → grants_all rule r l ≡ true → rule.grants r k ≡ true
 granted rule r k [] t e = elim t [ ]
 granted rule r k (j ∷ l) t e =
-    go (eqb j k) refl t (λ u. granted rule r k l u (right (rule.grants r j) (grants_all rule r l) e))
+    go (eqb j k) refl t (λ u. granted rule r k l u ((and_parts (rule.grants r j) (grants_all rule r l) e).1))
   where
     go : (c : Bool) → eqb j k ≡ c → T (cond c true (asks k l)) → (T (asks k l) → rule.grants r k ≡ true) → rule.grants r k ≡ true
-    go true h u f = subst (λ x. rule.grants r x ≡ true) (eqb→eq j k (rw h tt)) (left (rule.grants r j) (grants_all rule r l) e)
+    go true h u f = subst (λ x. rule.grants r x ≡ true) (eqb→eq j k (rw h tt)) ((and_parts (rule.grants r j) (grants_all rule r l) e).0)
     go false h u f = f u
 
 module _ (S : Setting) where
@@ -280,8 +268,8 @@ module _ {S : Setting} {b : Bool} (ks : List ℕ) where
   entered js h u x st k =
       record {
         place = k.place;
-        clear = λ t v. both (st.clear t t) (granted S.rule x.rights ucnfrts js v k.grants);
-        own = λ t v. k.own (both (st.clear t t) (granted S.rule x.rights mdfyrts js v k.grants));
+        clear = λ t v. and_from _ _ (st.clear t t) (granted S.rule x.rights ucnfrts js v k.grants);
+        own = λ t v. k.own (and_from _ _ (st.clear t t) (granted S.rule x.rights mdfyrts js v k.grants));
       }
 
 module _ {E : Type 0} {S : Setting} {b : Bool} (p : ℕ) (c : S.cast p ≡ b) where
@@ -313,19 +301,19 @@ module _ {E : Type 0} {S : Setting} {b : Bool} (p : ℕ) (c : S.cast p ≡ b) wh
 
   module _ (ks ls : List ℕ) where
     sound_go : (i : ℕ) (is : List ℕ) (h : Holder) (at : ℕ) (u : Bool) → Stands S b ks (asked_of ks ls is) h u
-        → Sound {E = E} S b (λ w. go S.rule ks ls p (i ∷ is) h at u w.frame) (λ t. Stands S b ks ls t.holder t.clear)
+        → Sound {E = E} S b (λ w. go S.rule ks ls p (i ∷ is) h at u w.frame) (λ t. Stands S b ks ls t.site.holder t.clear)
     unfolding go
     sound_go i [] h at u st = pure (Ok _) st
     sound_go i (j ∷ is) h at u st =
         bind (sound_object_at (asked_of ks ls is) i at st.place) λ x k.
         sound_go j is (Listed x.name) (at + 1) (u && S.rule.grants x.rights ucnfrts) (entered ks (asked_of ks ls is) h u x st k)
 
-    sound_from : (path : List ℕ) → Sound {E = E} S b (λ w. go S.rule ks ls p path Mine 1 true w.frame) (λ t. Stands S b ks ls t.holder t.clear)
+    sound_from : (path : List ℕ) → Sound {E = E} S b (λ w. go S.rule ks ls p path Mine 1 true w.frame) (λ t. Stands S b ks ls t.site.holder t.clear)
     unfolding go
     sound_from [] = pure (Err _) tt
     sound_from (i ∷ is) = sound_go i is Mine 1 true (record { place = here; clear = λ _ _. refl; own = λ _ _. tt })
 
-    pub sound_walk : (path : List ℕ) → Sound {E = E} S b (λ w. walk S.rule ks ls p path w.frame) (λ t. Stands S b ks ls t.holder t.clear)
+    pub sound_walk : (path : List ℕ) → Sound {E = E} S b (λ w. walk S.rule ks ls p path w.frame) (λ t. Stands S b ks ls t.site.holder t.clear)
     unfolding walk
     sound_walk path = bind {Q = λ _. Unit {0}} (pure (path_ok (length path)) (on_any S _)) λ _ _. sound_from path
 
@@ -336,7 +324,7 @@ module _ {E : Type 0} {S : Setting} {b : Bool} (p : ℕ) (c : S.cast p ≡ b) wh
 -- an object that an open writing walk reached, with the right to modify it
 pub owned_by : {S : Setting} {b : Bool} {ks ls js : List ℕ} {h : Holder} {u : Bool} {x : Cap} → Stands S b ks ls h u → Known S b u js x
     → T (asks ucnfrts ks) → T (asks ucnfrts ls) → T (asks mdfyrts js) → Own S b x.name
-owned_by {S} {b} {ks} {ls} {js} {h} {u} {x} st k t v m = k.own (both (st.clear t v) (granted S.rule x.rights mdfyrts js m k.grants))
+owned_by {S} {b} {ks} {ls} {js} {h} {u} {x} st k t v m = k.own (and_from _ _ (st.clear t v) (granted S.rule x.rights mdfyrts js m k.grants))
 
 -- what the cast reads of an object that it reached
 module _ {E : Type 0} {S : Setting} {b : Bool} (n : Name) (kept : b ≡ true → S.Kept n) where

@@ -1,9 +1,10 @@
 -- How edits change the scene, the kalls, and runs of requests.
-use Rattle.std.specs.Prelude.{ℕ, ◌+◌, ◌-◌, Bool, cond, ◌&&◌, List, [], ◌∷◌, ◌++◌, length, take, drop, set, replicate, ℤ, pos, Some, None, Ok, Err, vec_items, Option, Result, ◌==◌, nat_le, nat_lt, slice_index, slice_set}
+use Rattle.std.specs.Prelude.{ℕ, ◌+◌, ◌-◌, Bool, cond, ◌&&◌, List, [], ◌∷◌, ◌++◌, length, take, drop, set, replicate, ℤ, pos, Some, None, Ok, Err, codes, vec_items, Option, Result, ◌==◌, nat_le, nat_lt, slice_index, slice_set}
 use Rattle.model.specs.declared.kinds.Name.{Name}
 use Rattle.model.specs.declared.kinds.Cap.{Cap}
 use Rattle.model.specs.declared.kinds.Slot.{Slot}
 use Rattle.model.specs.declared.kinds.Slot.TheVariants.{Empty, Capability, Template}
+use Rattle.model.specs.declared.kinds.Site.{Site}
 use Rattle.model.specs.declared.kinds.Space.{Space}
 use Rattle.model.specs.declared.kinds.Change.{Change}
 use Rattle.model.specs.declared.kinds.Change.TheVariants.{Taken, Loaded, Moved, Stored}
@@ -152,7 +153,17 @@ module _ (rule : Rule) (p : ℕ) where
   read_at k path = do
     enter rule p None (length path)
     t ← walk rule (loadrts ∷ []) (loadrts ∷ []) p path
-    object_at rule (k ∷ []) p t.holder t.index t.at
+    object_at rule (k ∷ []) p t.site.holder t.site.index t.site.at
+
+  -- a slot of the name space, and the site after the length of the list at the path's end
+  abbrev pub appended : List ℕ → List ℕ → ℕ → Option ℕ → Plan Frame (Slot × Site)
+  appended ks path cur mask = do
+    enter rule p mask (length path)
+    s ← held rule ks p Mine cur 0
+    t ← walk rule writing writing p path
+    c ← object_at rule (mdfyrts ∷ apprts ∷ []) p t.site.holder t.site.index t.site.at
+    i ← next_slot c.name
+    λ _. Ok (s, record { holder = Listed c.name; index = i; at = 0 })
 
 module _ {E : Type 0} (rule : Rule) (p : ℕ) where
   abbrev pub done : ℤ → List (Edit E) → Plan Frame (Plain E)
@@ -187,7 +198,7 @@ module _ {E : Type 0} (rule : Rule) (p : ℕ) where
     enter rule p None (length path)
     vacant p Mine new 0
     t ← walk rule (loadrts ∷ []) (loadrts ∷ []) p path
-    s ← held rule [] p t.holder t.index t.at
+    s ← held rule [] p t.site.holder t.site.index t.site.at
     done (pos 0) (put Mine new (changed rule (Loaded t.clear) s) ∷ [])
 
   abbrev pub kall_pass : List ℕ → ℕ → Option ℕ → Plan Frame (Plain E)
@@ -195,16 +206,16 @@ module _ {E : Type 0} (rule : Rule) (p : ℕ) where
     enter rule p mask (length path)
     s ← held rule (dltrts ∷ leaving path) p Mine cur 0
     t ← walk rule writing (storts ∷ mdfyrts ∷ []) p path
-    vacant p t.holder t.index t.at
-    done (pos 0) (put t.holder t.index (changed rule (Moved mask) s) ∷ put Mine cur Empty ∷ [])
+    vacant p t.site.holder t.site.index t.site.at
+    done (pos 0) (put t.site.holder t.site.index (changed rule (Moved mask) s) ∷ put Mine cur Empty ∷ [])
 
   abbrev pub kall_take : ℕ → List ℕ → Plan Frame (Plain E)
   kall_take new path = do
     enter rule p None (length path)
     vacant p Mine new 0
     t ← walk rule writing (killrts ∷ loadrts ∷ mdfyrts ∷ []) p path
-    s ← held rule (dltrts ∷ []) p t.holder t.index t.at
-    done (pos 0) (put Mine new (changed rule (Taken t.clear) s) ∷ put t.holder t.index Empty ∷ [])
+    s ← held rule (dltrts ∷ []) p t.site.holder t.site.index t.site.at
+    done (pos 0) (put Mine new (changed rule (Taken t.clear) s) ∷ put t.site.holder t.site.index Empty ∷ [])
 
   -- in place, and elsewhere
   abbrev pub store_here : ℕ → Option ℕ → Plan Frame (Plain E)
@@ -216,8 +227,8 @@ module _ {E : Type 0} (rule : Rule) (p : ℕ) where
   store_there path cur mask = do
     s ← held rule (leaving path) p Mine cur 0
     t ← walk rule writing (storts ∷ mdfyrts ∷ []) p path
-    vacant p t.holder t.index t.at
-    done (pos 0) (put t.holder t.index (changed rule (Stored mask) s) ∷ [])
+    vacant p t.site.holder t.site.index t.site.at
+    done (pos 0) (put t.site.holder t.site.index (changed rule (Stored mask) s) ∷ [])
 
   abbrev pub kall_store : List ℕ → ℕ → Option ℕ → Plan Frame (Plain E)
   kall_store path cur mask = do
@@ -227,12 +238,8 @@ module _ {E : Type 0} (rule : Rule) (p : ℕ) where
   -- a slot of the name space goes, changed, after the length of a list; `es` is what else is done
   abbrev pub appending : List ℕ → Change → List (Edit E) → List ℕ → ℕ → Option ℕ → Plan Frame (Plain E)
   appending ks ch es path cur mask = do
-    enter rule p mask (length path)
-    s ← held rule ks p Mine cur 0
-    t ← walk rule writing writing p path
-    c ← object_at rule (mdfyrts ∷ apprts ∷ []) p t.holder t.index t.at
-    i ← next_slot c.name
-    done (pos 0) (put (Listed c.name) i (changed rule ch s) ∷ es)
+    a ← appended rule p ks path cur mask
+    done (pos 0) (put a.1.holder a.1.index (changed rule ch a.0) ∷ es)
 
   abbrev pub kall_append : List ℕ → ℕ → Option ℕ → Plan Frame (Plain E)
   kall_append path cur mask = appending (envrts ∷ []) (Stored mask) [] path cur mask
@@ -244,16 +251,31 @@ module _ {E : Type 0} (rule : Rule) (p : ℕ) where
   kall_delete path = do
     enter rule p None (length path)
     t ← walk rule writing (mdfyrts ∷ killrts ∷ []) p path
-    held rule (dltrts ∷ []) p t.holder t.index t.at
-    done (pos 0) (put t.holder t.index Empty ∷ [])
+    held rule (dltrts ∷ []) p t.site.holder t.site.index t.site.at
+    done (pos 0) (put t.site.holder t.site.index Empty ∷ [])
 
   abbrev pub kall_interchange : List ℕ → ℕ → Option ℕ → Plan Frame (Plain E)
   kall_interchange path cur mask = do
     enter rule p mask (length path)
     s ← held rule (dltrts ∷ []) p Mine cur 0
     t ← walk rule writing (mdfyrts ∷ killrts ∷ loadrts ∷ storts ∷ []) p path
-    r ← held rule (dltrts ∷ []) p t.holder t.index t.at
-    done (pos 0) (put Mine cur (changed rule (Taken t.clear) r) ∷ put t.holder t.index (changed rule (Moved mask) s) ∷ [])
+    r ← held rule (dltrts ∷ []) p t.site.holder t.site.index t.site.at
+    done (pos 0) (put Mine cur (changed rule (Taken t.clear) r) ∷ put t.site.holder t.site.index (changed rule (Moved mask) s) ∷ [])
+
+-- a kall's name, as it is printed
+abbrev pub kall_name : Kall → List ℕ
+kall_name Lenth = codes "LENTH"
+kall_name (Clenth path) = codes "CLENTH"
+kall_name (Dlenth path) = codes "DLENTH"
+kall_name (Getdata path disp knt) = codes "GETDATA"
+kall_name (Load k) = codes "LOAD"
+kall_name (Pass k) = codes "PASS"
+kall_name (Take k) = codes "TAKE"
+kall_name (Store k) = codes "STORE"
+kall_name (Append k) = codes "APPEND"
+kall_name (Passappend k) = codes "PASSAPPEND"
+kall_name (Delete path) = codes "DELETE"
+kall_name (Interchange k) = codes "INTERCHANGE"
 
 -- a kall that leaves the buffer alone
 abbrev pub plain : {E : Type 0} → Result (Plain E) Fault → Result (Outcome E) Fault
@@ -265,14 +287,14 @@ plan rule p Lenth xs w = plain (kall_lenth rule p w.frame)
 plan rule p (Clenth path) xs w = plain (kall_clenth rule p (vec_items path) w.frame)
 plan rule p (Dlenth path) xs w = plain (kall_dlenth rule p (vec_items path) w)
 plan rule p (Getdata path disp knt) xs w = kall_getdata rule p (vec_items path) disp knt xs w
-plan rule p (Load new path) xs w = plain (kall_load rule p new (vec_items path) w.frame)
-plan rule p (Pass path cur mask) xs w = plain (kall_pass rule p (vec_items path) cur mask w.frame)
-plan rule p (Take new path) xs w = plain (kall_take rule p new (vec_items path) w.frame)
-plan rule p (Store path cur mask) xs w = plain (kall_store rule p (vec_items path) cur mask w.frame)
-plan rule p (Append path cur mask) xs w = plain (kall_append rule p (vec_items path) cur mask w.frame)
-plan rule p (Passappend path cur mask) xs w = plain (kall_passappend rule p (vec_items path) cur mask w.frame)
+plan rule p (Load k) xs w = plain (kall_load rule p k.new (vec_items k.path) w.frame)
+plan rule p (Pass k) xs w = plain (kall_pass rule p (vec_items k.path) k.cur k.mask w.frame)
+plan rule p (Take k) xs w = plain (kall_take rule p k.new (vec_items k.path) w.frame)
+plan rule p (Store k) xs w = plain (kall_store rule p (vec_items k.path) k.cur k.mask w.frame)
+plan rule p (Append k) xs w = plain (kall_append rule p (vec_items k.path) k.cur k.mask w.frame)
+plan rule p (Passappend k) xs w = plain (kall_passappend rule p (vec_items k.path) k.cur k.mask w.frame)
 plan rule p (Delete path) xs w = plain (kall_delete rule p (vec_items path) w.frame)
-plan rule p (Interchange path cur mask) xs w = plain (kall_interchange rule p (vec_items path) cur mask w.frame)
+plan rule p (Interchange k) xs w = plain (kall_interchange rule p (vec_items k.path) k.cur k.mask w.frame)
 
 -- how a kall ends that leaves the buffer alone: a fault changes nothing
 pub record Ending (E : Type 0) : Type 0 where

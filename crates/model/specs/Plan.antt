@@ -1,5 +1,6 @@
 -- A kall is planned before anything changes: a plan reads the scene, and answers a fault or what is to be done.
 use Rattle.std.specs.Prelude.{ℕ, zero, suc, ◌+◌, ◌-◌, Bool, true, false, cond, ◌&&◌, ◌||◌, List, [], ◌∷◌, length, Some, None, Ok, Err, Option, Result, ◌==◌, nat_le, nat_lt, slice_index_or}
+use Rattle.std.specs.List.{list_all}
 use Rattle.model.specs.declared.kinds.Name.{Name}
 use Rattle.model.specs.declared.kinds.Cap.{Cap}
 use Rattle.model.specs.declared.kinds.Slot.{Slot}
@@ -7,6 +8,7 @@ use Rattle.model.specs.declared.kinds.Slot.TheVariants.{Empty, Capability, Templ
 use Rattle.model.specs.declared.kinds.Space.{Space}
 use Rattle.model.specs.declared.kinds.Limits.{Limits}
 use Rattle.model.specs.declared.kinds.Target.{Target}
+use Rattle.model.specs.declared.kinds.Site.{Site}
 use Rattle.model.specs.declared.kinds.Holder.{Holder}
 use Rattle.model.specs.declared.kinds.Holder.TheVariants.{Mine, Listed}
 use Rattle.model.specs.declared.signals.Fault.{Fault}
@@ -29,27 +31,27 @@ abbrev pub ◌>>◌ : {W A B : Type 0} → Plan W A → Plan W B → Plan W B
 ◌>>◌ m k = λ w. after (m w) (λ a. k w)
 
 -- the caller is enrolled and not stopped
-abbrev pub task_runs : Option Task → Result ℕ Fault
+abbrev pub task_runs : Option Task → Result (Unit {0}) Fault
 task_runs None = Err (fault Sproc 0)
-task_runs (Some t) = cond t.running (Ok 0) (Err (fault Sstop 0))
+task_runs (Some t) = cond t.running (Ok tt) (Err (fault Sstop 0))
 
-unfoldable pub runs : ℕ → Plan Frame ℕ
+unfoldable pub runs : ℕ → Plan Frame (Unit {0})
 runs p f = task_runs (f.process p)
 
 -- a mask that is given is a valid code
-abbrev pub code_ok : Rule → ℕ → Result ℕ Fault
-code_ok rule c = cond (rule.valid c) (Ok 0) (Err (fault Smask 0))
+abbrev pub code_ok : Rule → ℕ → Result (Unit {0}) Fault
+code_ok rule c = cond (rule.valid c) (Ok tt) (Err (fault Smask 0))
 
-abbrev pub mask_ok : Rule → Option ℕ → Result ℕ Fault
-mask_ok rule None = Ok 0
+abbrev pub mask_ok : Rule → Option ℕ → Result (Unit {0}) Fault
+mask_ok rule None = Ok tt
 mask_ok rule (Some m) = code_ok rule m
 
 -- a path has 1 to 6 indexes
-abbrev pub path_ok : ℕ → Result ℕ Fault
-path_ok len = cond (nat_le 1 len && nat_le len 6) (Ok 0) (Err (fault Spath 0))
+abbrev pub path_ok : ℕ → Result (Unit {0}) Fault
+path_ok len = cond (nat_le 1 len && nat_le len 6) (Ok tt) (Err (fault Spath 0))
 
 -- what every kall with a path checks first
-unfoldable pub enter : Rule → ℕ → Option ℕ → ℕ → Plan Frame ℕ
+unfoldable pub enter : Rule → ℕ → Option ℕ → ℕ → Plan Frame (Unit {0})
 enter rule p mask len f = after (runs p f) λ _. after (mask_ok rule mask) λ _. path_ok len
 
 -- what an object's type allows it: 1 DATA has no list, 3 PROCEDURE no data part, 2 UNIVERSAL and user types have both
@@ -95,19 +97,22 @@ slot_in f p (Listed n) i at = slot_of f n i at
 abbrev pub slot_at : Frame → ℕ → Holder → ℕ → ℕ → Result Slot Fault
 slot_at f p h i at = cond (i == 0) (Err (fault Sindex at)) (slot_in f p h (i - 1) at)
 
+-- the site of a slot of the current name space
+abbrev pub own_site : ℕ → Site
+own_site i = record { holder = Mine; index = i; at = 0 }
+
 -- an empty slot
-abbrev pub unfilled : ℕ → Slot → Result ℕ Fault
-unfilled at Empty = Ok 0
+abbrev pub unfilled : ℕ → Slot → Result (Unit {0}) Fault
+unfilled at Empty = Ok tt
 unfilled at (Capability c) = Err (fault Sfull at)
 unfilled at (Template t) = Err (fault Sfull at)
 
-unfoldable pub vacant : ℕ → Holder → ℕ → ℕ → Plan Frame ℕ
+unfoldable pub vacant : ℕ → Holder → ℕ → ℕ → Plan Frame (Unit {0})
 vacant p h i at f = after (slot_at f p h i at) (unfilled at)
 
 -- the code grants each right of a list
 abbrev pub grants_all : Rule → ℕ → List ℕ → Bool
-grants_all rule r [] = true
-grants_all rule r (k ∷ ks) = rule.grants r k && grants_all rule r ks
+grants_all rule r ks = list_all (rule.grants r) ks
 
 -- a held slot: a capability or a template, by its rights code
 abbrev pub filled_with : Rule → List ℕ → ℕ → Slot → Result Slot Fault
@@ -143,7 +148,7 @@ asked_of ks ls (i ∷ is) = ks
 -- from the holder h at the position `at` on; `clear` so far
 unfoldable pub go : Rule → List ℕ → List ℕ → ℕ → List ℕ → Holder → ℕ → Bool → Plan Frame Target
 go rule ks ls p [] h at clear f = Err (fault Spath 0)
-go rule ks ls p (i ∷ []) h at clear f = Ok (record { holder = h; index = i; clear = clear; at = at })
+go rule ks ls p (i ∷ []) h at clear f = Ok (record { site = record { holder = h; index = i; at = at }; clear = clear })
 go rule ks ls p (i ∷ j ∷ is) h at clear f =
     after (object_at rule (asked_of ks ls is) p h i at f)
     (λ c. go rule ks ls p (j ∷ is) (Listed c.name) (at + 1) (clear && rule.grants c.rights ucnfrts) f)

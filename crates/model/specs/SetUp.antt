@@ -40,8 +40,8 @@ abbrev pub enrol : Plan Frame (Change Frame)
 enrol f = after (unenrolled f.process 8 1) λ p. Ok (record { value = p; after = on_process p (λ _. newcomer) f })
 
 -- the count is within the type's greatest length and the buffer
-abbrev pub fits : ℕ → ℕ → Limits → Result ℕ Fault
-fits count given l = cond (nat_le count l.elements && nat_le count given) (Ok 0) (Err (fault Slim 0))
+abbrev pub fits : ℕ → ℕ → Limits → Result (Unit {0}) Fault
+fits count given l = cond (nat_le count l.elements && nat_le count given) (Ok tt) (Err (fault Slim 0))
 
 -- a new object of the share, with its elements
 unfoldable pub creating : {E : Type 0} → ℕ → ℕ → List E → Plan (World E) (Change (World E))
@@ -67,14 +67,14 @@ abbrev pub caller : Owner → ℕ
 caller (Process p) = p
 caller (Object n) = 0
 
-abbrev pub enrolled : Option Task → Result ℕ Fault
+abbrev pub enrolled : Option Task → Result (Unit {0}) Fault
 enrolled None = Err (fault Sproc 0)
-enrolled (Some t) = Ok 0
+enrolled (Some t) = Ok tt
 
-abbrev pub living : Name → Plan Frame ℕ
-living n f = cond (lives f n) (Ok 0) (Err (fault Sgone 0))
+abbrev pub living : Name → Plan Frame (Unit {0})
+living n f = cond (lives f n) (Ok tt) (Err (fault Sgone 0))
 
-unfoldable pub owned : Owner → Plan Frame ℕ
+unfoldable pub owned : Owner → Plan Frame (Unit {0})
 owned (Process p) f = enrolled (f.process p)
 owned (Object n) f = living (house n) f
 
@@ -92,10 +92,10 @@ plant rule o i n code = do
   filling o i (Capability (record { name = house n; rights = code }))
 
 -- a type that a template may want: 0 for any, or one that MAKE takes
-abbrev pub wanted_ok : ℕ → Result Limits Fault
-wanted_ok kind = cond (kind == 0) (Ok (record { slots = 0; elements = 0 })) (limits kind)
+abbrev pub wanted_ok : ℕ → Result (Unit {0}) Fault
+wanted_ok kind = cond (kind == 0) (Ok tt) (after (limits kind) λ _. Ok tt)
 
-abbrev pub codes_ok : Rule → Form → Result ℕ Fault
+abbrev pub codes_ok : Rule → Form → Result (Unit {0}) Fault
 codes_ok rule t = after (code_ok rule t.rights) λ _. after (code_ok rule t.check) λ _. code_ok rule t.new
 
 abbrev pub template : Rule → Owner → ℕ → Form → Plan Frame (Change Frame)

@@ -1,5 +1,6 @@
 -- The signals: the number and the layer of each.
-use Rattle.std.specs.Prelude.{ℕ, ℤ, negsuc}
+use Rattle.std.specs.Prelude.{ℕ, ℤ, negsuc, List, ◌++◌, codes}
+use Rattle.std.specs.Fmt.{decimal, signed_decimal}
 use Rattle.model.specs.declared.signals.Signal.{Signal}
 use Rattle.model.specs.declared.signals.Signal.TheVariants.{
   Sproc,
@@ -69,3 +70,35 @@ layer Smask = Object
 -- the fault of a signal with its detail
 abbrev pub fault : Signal → ℕ → Fault
 fault s d = record { signal = s; detail = d; layer = layer s }
+
+-- a signal's name, as it is printed
+abbrev pub name : Signal → List ℕ
+name Sproc = codes "SPROC"
+name Sstop = codes "SSTOP"
+name Spath = codes "SPATH"
+name Sindex = codes "SINDEX"
+name Snull = codes "SNULL"
+name Stempl = codes "STEMPL"
+name Sgone = codes "SGONE"
+name Srts = codes "SRTS"
+name Stype = codes "STYPE"
+name Sfull = codes "SFULL"
+name Slim = codes "SLIM"
+name Sroom = codes "SROOM"
+name Snames = codes "SNAMES"
+name Sdepth = codes "SDEPTH"
+name Sargs = codes "SARGS"
+name Schk = codes "SCHK"
+name Svalue = codes "SVALUE"
+name Smask = codes "SMASK"
+
+abbrev pub depth : Layer → ℕ
+depth Process = 1
+depth Path = 2
+depth Object = 3
+depth Shelf = 4
+
+-- a refusal as it is printed: number, name, detail and layer
+abbrev pub text : Fault → List ℕ
+text f =
+    signed_decimal (number f.signal) ++ codes " " ++ name f.signal ++ codes " detail " ++ decimal f.detail ++ codes " layer " ++ decimal (depth f.layer)

@@ -1,14 +1,18 @@
 // The values that a scene is made of, and the requests that processes make.
+ghost use Rattle.std.specs.Prelude.{◌≡◌, Some};
+ghost use Rattle.model.specs.Plan.{own_site};
+
 use crate::signals::Fault;
+use std::fmt;
 
 // An object's name: the share that it was made in, and its number there.
-#[derive(Clone, Copy)]
+#[derive(Clone, Copy, Debug, PartialEq, Eq)]
 pub struct Name {
     pub share: u32,
     pub number: u32,
 }
 
-#[derive(Clone, Copy)]
+#[derive(Clone, Copy, Debug, PartialEq, Eq)]
 pub struct Cap {
     pub name: Name,
     pub rights: u32,
@@ -16,7 +20,7 @@ pub struct Cap {
 
 // What a template says: its own rights code, the type wanted (0 for any), the
 // rights that an argument must have, and those that it gets.
-#[derive(Clone, Copy)]
+#[derive(Clone, Copy, Debug, PartialEq, Eq)]
 pub struct Form {
     pub rights: u32,
     pub wanted: u32,
@@ -24,8 +28,9 @@ pub struct Form {
     pub new: u32,
 }
 
-#[derive(Clone, Copy)]
+#[derive(Clone, Copy, Debug, Default, PartialEq, Eq)]
 pub enum Slot {
+    #[default]
     Empty,
     Capability(Cap),
     Template(Form),
@@ -34,27 +39,33 @@ pub enum Slot {
 pub const EMPTY: Slot = Slot::Empty;
 
 // A name space, and the slot of the caller's that a returned capability goes to.
-#[derive(Clone, Copy)]
+#[derive(Clone, Copy, Default)]
 pub struct Space {
     pub slots: [Slot; 12],
     pub back: u32,
 }
 
 // Whose slots: the process's current name space, or the list of an object.
-#[derive(Clone, Copy)]
+#[derive(Clone, Copy, Debug, PartialEq, Eq)]
 pub enum Holder {
     Mine,
     Listed(Name),
 }
 
-// Where a path ends: clear if every capability on the way grants UCNFRTS; `at` is
-// the position in the path, from 1.
+// Where a slot is, by its index from 1; `at` is the detail of a refusal: the position
+// in a path, or 0.
 #[derive(Clone, Copy)]
-pub struct Target {
+pub struct Site {
     pub holder: Holder,
     pub index: u32,
-    pub clear: bool,
     pub at: u8,
+}
+
+// Where a path ends: clear if every capability on the way grants UCNFRTS.
+#[derive(Clone, Copy)]
+pub struct Target {
+    pub site: Site,
+    pub clear: bool,
 }
 
 // How a slot's rights code changes on the slot's way.
@@ -84,63 +95,79 @@ pub struct Limits {
     pub elements: usize,
 }
 
+// A slot at a path's end, and the slot of the name space that it goes to.
+#[derive(Drop)]
+pub struct Fetch {
+    pub new: u32,
+    pub path: Vec<u32>,
+}
+
+// A slot of the name space that goes where a path ends, under a mask or none.
+#[derive(Drop)]
+pub struct Move {
+    pub path: Vec<u32>,
+    pub cur: u32,
+    pub mask: Option<u32>,
+}
+
 #[derive(Drop)]
 pub enum Kall {
     Lenth,
-    Clenth {
-        path: Vec<u32>,
-    },
-    Dlenth {
-        path: Vec<u32>,
-    },
-    Getdata {
-        path: Vec<u32>,
-        disp: u32,
-        knt: u32,
-    },
-    Load {
-        new: u32,
-        path: Vec<u32>,
-    },
-    Pass {
-        path: Vec<u32>,
-        cur: u32,
-        mask: Option<u32>,
-    },
-    Take {
-        new: u32,
-        path: Vec<u32>,
-    },
-    Store {
-        path: Vec<u32>,
-        cur: u32,
-        mask: Option<u32>,
-    },
-    Append {
-        path: Vec<u32>,
-        cur: u32,
-        mask: Option<u32>,
-    },
-    Passappend {
-        path: Vec<u32>,
-        cur: u32,
-        mask: Option<u32>,
-    },
-    Delete {
-        path: Vec<u32>,
-    },
-    Interchange {
-        path: Vec<u32>,
-        cur: u32,
-        mask: Option<u32>,
-    },
+    Clenth(Vec<u32>),
+    Dlenth(Vec<u32>),
+    Getdata { path: Vec<u32>, disp: u32, knt: u32 },
+    Load(Fetch),
+    Pass(Move),
+    Take(Fetch),
+    Store(Move),
+    Append(Move),
+    Passappend(Move),
+    Delete(Vec<u32>),
+    Interchange(Move),
 }
 
-// What a process asks for, with its own buffer; the answer comes with the serving.
+// What a process asks for, with its own buffer if it has one; the answer comes with
+// the serving.
 #[derive(Drop)]
 pub struct Request<E> {
     pub process: u32,
     pub kall: Kall,
-    pub buffer: Vec<E>,
+    pub buffer: Option<Vec<E>>,
     pub answer: Option<Result<i32, Fault>>,
+}
+
+impl Site {
+    // A slot of the current name space.
+    pub fn own(index: u32) -> Site
+        ensures { result ≡ own_site index }
+    {
+        Site {
+            holder: Holder::Mine,
+            index,
+            at: 0,
+        }
+    }
+}
+
+impl fmt::Display for Kall {
+    ghost use Rattle.model.specs.Kalls.{kall_name};
+
+    ghost output = { λ kall. Some (kall_name kall) };
+
+    fn fmt<W: fmt::Write>(&self, f: &mut fmt::Formatter<W>) -> fmt::Result {
+        f.write_str(match self {
+            Kall::Lenth => "LENTH",
+            Kall::Clenth(_) => "CLENTH",
+            Kall::Dlenth(_) => "DLENTH",
+            Kall::Getdata { .. } => "GETDATA",
+            Kall::Load(_) => "LOAD",
+            Kall::Pass(_) => "PASS",
+            Kall::Take(_) => "TAKE",
+            Kall::Store(_) => "STORE",
+            Kall::Append(_) => "APPEND",
+            Kall::Passappend(_) => "PASSAPPEND",
+            Kall::Delete(_) => "DELETE",
+            Kall::Interchange(_) => "INTERCHANGE",
+        })
+    }
 }

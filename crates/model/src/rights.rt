@@ -1,4 +1,5 @@
-// The rights that the kernel asks for, by their numbers in a rights code.
+// The rights that the kernel asks for, by their numbers in a rights code. They are
+// numbers and no enum, since a rule answers any: those from 13 on are its user's.
 pub const DLTRTS: u8 = 0;
 
 pub const ENVRTS: u8 = 1;

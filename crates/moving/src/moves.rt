@@ -1,28 +1,19 @@
 // The kalls that move a slot and leave its old place empty, or change two about.
-ghost use Rattle.std.specs.Prelude.{◌≡◌, ◌∷◌};
-ghost use Rattle.model.specs.Kalls.{leaving, ended, kall_pass, kall_take, kall_delete, kall_interchange};
-ghost use Rattle.scene.specs.Abstract.{frame, world};
+// Each is shown the slip and lent the shelf: in one struct the two loans would want
+// two clauses more of every contract. What is done is answered by 0.
+ghost use Rattle.std.specs.Prelude.{◌≡◌};
+ghost use Rattle.model.specs.Kalls.{kall_pass, kall_take, kall_delete, kall_interchange};
+ghost use Rattle.scene.specs.Abstract.{Does};
 
-use model::kinds::{Change, EMPTY, Holder};
+use model::kinds::{Change, EMPTY, Site, Target};
 use model::rights::{DLTRTS, ENVRTS, KILLRTS, LOADRTS, MDFYRTS, STORTS};
 use model::signals::Fault;
 use paths::recode::changed;
 use paths::slots::{enter, held};
-use paths::walk::{WRITING, walk};
+use paths::walk::{WRITING, by_way, walk};
 use rights::rule::RightsRule;
 use scene::opened::{Scene, Slip};
 use shelf::traits::ReadableShelf;
-
-// What a slot must grant to be moved away by the path.
-fn moving_away(path: &[u32]) -> &'static [u8]
-    ensures { result.now ≡ 0 ∷ leaving path.now }
-{
-    if path.len() == 1 {
-        &[DLTRTS]
-    } else {
-        &[DLTRTS, ENVRTS]
-    }
-}
 
 // A slot of the name space is moved to an empty slot.
 pub fn pass<R: RightsRule, S: ReadableShelf>(
@@ -34,19 +25,21 @@ pub fn pass<R: RightsRule, S: ReadableShelf>(
     cur: u32,
     mask: Option<u32>,
 ) -> Result<i32, Fault>
-    ensures { record { answer = result; after = world scene.new.tables (S.ReadableShelf.holds _shelf.new) } ≡ ended process (world scene.old.tables (S.ReadableShelf.holds _shelf.old)) (kall_pass R.RightsRule.rule process path.now cur mask (frame scene.old.tables)) }
+    ensures { Does process (kall_pass R.RightsRule.rule process path.now cur mask) scene.old.tables (S.ReadableShelf.holds _shelf.old) scene.new.tables (S.ReadableShelf.holds _shelf.new) result }
 {
     enter(scene, process, mask, path.len())?;
-    let slot = held(scene, moving_away(path), process, Holder::Mine, cur, 0)?;
-    let target = walk(scene, &WRITING, &[STORTS, MDFYRTS], process, path)?;
-    scene
-        .tables
-        .vacant(process, target.holder, target.index, target.at)?;
+    let own = Site::own(cur);
+    let slot = held(
+        scene,
+        by_way(path, &[DLTRTS], &[DLTRTS, ENVRTS]),
+        process,
+        own,
+    )?;
+    let Target { site, .. } = walk(scene, &WRITING, &[STORTS, MDFYRTS], process, path)?;
+    scene.tables.vacant(process, site)?;
     let moved = changed(&scene.rule, Change::Moved { mask }, slot);
-    scene
-        .tables
-        .put_in(process, target.holder, target.index, moved);
-    scene.tables.put_in(process, Holder::Mine, cur, EMPTY);
+    scene.tables.put_in(process, site, moved);
+    scene.tables.put_in(process, own, EMPTY);
     Ok(0)
 }
 
@@ -59,30 +52,22 @@ pub fn take<R: RightsRule, S: ReadableShelf>(
     new: u32,
     path: &[u32],
 ) -> Result<i32, Fault>
-    ensures { record { answer = result; after = world scene.new.tables (S.ReadableShelf.holds _shelf.new) } ≡ ended process (world scene.old.tables (S.ReadableShelf.holds _shelf.old)) (kall_take R.RightsRule.rule process new path.now (frame scene.old.tables)) }
+    ensures { Does process (kall_take R.RightsRule.rule process new path.now) scene.old.tables (S.ReadableShelf.holds _shelf.old) scene.new.tables (S.ReadableShelf.holds _shelf.new) result }
 {
     enter(scene, process, None, path.len())?;
-    scene.tables.vacant(process, Holder::Mine, new, 0)?;
-    let target = walk(scene, &WRITING, &[KILLRTS, LOADRTS, MDFYRTS], process, path)?;
-    let slot = held(
+    let here = Site::own(new);
+    scene.tables.vacant(process, here)?;
+    let Target { site, clear } = walk(
         scene,
-        &[DLTRTS],
+        &WRITING,
+        &[KILLRTS, LOADRTS, MDFYRTS],
         process,
-        target.holder,
-        target.index,
-        target.at,
+        path,
     )?;
-    let taken = changed(
-        &scene.rule,
-        Change::Taken {
-            clear: target.clear,
-        },
-        slot,
-    );
-    scene.tables.put_in(process, Holder::Mine, new, taken);
-    scene
-        .tables
-        .put_in(process, target.holder, target.index, EMPTY);
+    let slot = held(scene, &[DLTRTS], process, site)?;
+    let taken = changed(&scene.rule, Change::Taken { clear }, slot);
+    scene.tables.put_in(process, here, taken);
+    scene.tables.put_in(process, site, EMPTY);
     Ok(0)
 }
 
@@ -93,21 +78,12 @@ pub fn delete<R: RightsRule, S: ReadableShelf>(
     process: u32,
     path: &[u32],
 ) -> Result<i32, Fault>
-    ensures { record { answer = result; after = world scene.new.tables (S.ReadableShelf.holds _shelf.new) } ≡ ended process (world scene.old.tables (S.ReadableShelf.holds _shelf.old)) (kall_delete R.RightsRule.rule process path.now (frame scene.old.tables)) }
+    ensures { Does process (kall_delete R.RightsRule.rule process path.now) scene.old.tables (S.ReadableShelf.holds _shelf.old) scene.new.tables (S.ReadableShelf.holds _shelf.new) result }
 {
     enter(scene, process, None, path.len())?;
-    let target = walk(scene, &WRITING, &[MDFYRTS, KILLRTS], process, path)?;
-    held(
-        scene,
-        &[DLTRTS],
-        process,
-        target.holder,
-        target.index,
-        target.at,
-    )?;
-    scene
-        .tables
-        .put_in(process, target.holder, target.index, EMPTY);
+    let Target { site, .. } = walk(scene, &WRITING, &[MDFYRTS, KILLRTS], process, path)?;
+    held(scene, &[DLTRTS], process, site)?;
+    scene.tables.put_in(process, site, EMPTY);
     Ok(0)
 }
 
@@ -121,36 +97,22 @@ pub fn interchange<R: RightsRule, S: ReadableShelf>(
     cur: u32,
     mask: Option<u32>,
 ) -> Result<i32, Fault>
-    ensures { record { answer = result; after = world scene.new.tables (S.ReadableShelf.holds _shelf.new) } ≡ ended process (world scene.old.tables (S.ReadableShelf.holds _shelf.old)) (kall_interchange R.RightsRule.rule process path.now cur mask (frame scene.old.tables)) }
+    ensures { Does process (kall_interchange R.RightsRule.rule process path.now cur mask) scene.old.tables (S.ReadableShelf.holds _shelf.old) scene.new.tables (S.ReadableShelf.holds _shelf.new) result }
 {
     enter(scene, process, mask, path.len())?;
-    let slot = held(scene, &[DLTRTS], process, Holder::Mine, cur, 0)?;
-    let target = walk(
+    let own = Site::own(cur);
+    let slot = held(scene, &[DLTRTS], process, own)?;
+    let Target { site, clear } = walk(
         scene,
         &WRITING,
         &[MDFYRTS, KILLRTS, LOADRTS, STORTS],
         process,
         path,
     )?;
-    let other = held(
-        scene,
-        &[DLTRTS],
-        process,
-        target.holder,
-        target.index,
-        target.at,
-    )?;
-    let taken = changed(
-        &scene.rule,
-        Change::Taken {
-            clear: target.clear,
-        },
-        other,
-    );
+    let other = held(scene, &[DLTRTS], process, site)?;
+    let taken = changed(&scene.rule, Change::Taken { clear }, other);
     let moved = changed(&scene.rule, Change::Moved { mask }, slot);
-    scene.tables.put_in(process, Holder::Mine, cur, taken);
-    scene
-        .tables
-        .put_in(process, target.holder, target.index, moved);
+    scene.tables.put_in(process, own, taken);
+    scene.tables.put_in(process, site, moved);
     Ok(0)
 }

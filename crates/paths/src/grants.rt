@@ -7,10 +7,5 @@ use rights::rule::RightsRule;
 pub(crate) fn grants_all<R: RightsRule>(rule: &R, code: u32, rights: &[u8]) -> bool
     ensures { result ≡ grants_all R.RightsRule.rule code rights.now }
 {
-    for right in rights {
-        if !rule.does_grant(code, *right) {
-            return false;
-        }
-    }
-    true
+    rights.iter().all(|right| rule.does_grant(code, *right))
 }

@@ -31,6 +31,7 @@ fn recode<R: RightsRule>(rule: &R, change: Change, code: u32) -> u32
     }
 }
 
+#[tactic(auto, unfolding(model::specs::Kalls::changed))]
 pub fn changed<R: RightsRule>(rule: &R, change: Change, slot: Slot) -> Slot
     ensures { result ≡ changed R.RightsRule.rule change slot }
 {

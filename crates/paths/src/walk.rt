@@ -1,17 +1,32 @@
 // Following a path.
-ghost use Rattle.std.specs.Prelude.{◌≡◌};
-ghost use Rattle.model.specs.Plan.{walk};
+ghost use Rattle.std.specs.Prelude.{◌≡◌, ◌==◌, cond, drop, length};
+ghost use Rattle.model.specs.Plan.{asked_of, walk};
 ghost use Rattle.scene.specs.Abstract.{frame};
 
 use crate::slots::{object_at, path_ok};
-use model::kinds::{Holder, Target};
+use model::kinds::{Holder, Site, Target};
 use model::rights::{LOADRTS, UCNFRTS};
-use model::signals::Fault;
+use model::signals::{Fault, Signal};
 use rights::rule::RightsRule;
 use scene::opened::Scene;
 
 // What a writing walk wants of its steps, and of its pretarget where nothing else is named.
 pub const WRITING: [u8; 2] = [LOADRTS, UCNFRTS];
+
+// What is asked of a slot by the way that it takes: a path of one index stays in the
+// name space.
+pub fn by_way<'a>(path: &[u32], near: &'a [u8], far: &'a [u8]) -> &'a [u8]
+    ensures { result.now ≡ cond (length path.now == 1) near.now far.now }
+{
+    if path.len() == 1 { near } else { far }
+}
+
+// What is asked of an index's capability, by the indexes that come later.
+fn asked<'a>(later: &[u32], step: &'a [u8], last: &'a [u8]) -> &'a [u8]
+    ensures { result.now ≡ asked_of step.now last.now (drop 1 later.now) }
+{
+    if later.len() <= 1 { last } else { step }
+}
 
 // From the first index on, `step` asked of steps and `last` of the pretarget; the
 // first failure ends it.
@@ -25,31 +40,30 @@ pub fn walk<R: RightsRule>(
     ensures { result ≡ walk R.RightsRule.rule step.now last.now process path.now (frame scene.now.tables) }
 {
     path_ok(path.len())?;
+    let mut rest = path;
     let mut holder = Holder::Mine;
-    let mut at = 1u8;
+    let mut at = 1u8; // counted for the detail of a refusal
     let mut clear = true;
     loop {
-        let index = path[at as usize - 1];
-        if at as usize == path.len() {
-            break Ok(Target {
-                holder,
-                index,
-                clear,
-                at,
-            });
-        }
-        let rights = if at as usize + 1 == path.len() {
-            last
-        } else {
-            step
+        let Some((index, later)) = rest.split_first() else {
+            break Err(Fault::new(Signal::Spath, 0));
         };
-        match object_at(scene, rights, process, holder, index, at) {
+        let site = Site {
+            holder,
+            index: *index,
+            at,
+        };
+        if later.is_empty() {
+            break Ok(Target { site, clear });
+        }
+        match object_at(scene, asked(later, step, last), process, site) {
             Err(fault) => break Err(fault),
             Ok(cap) => {
-                clear = clear && scene.rule.does_grant(cap.rights, UCNFRTS);
+                clear &= scene.rule.does_grant(cap.rights, UCNFRTS);
                 holder = Holder::Listed(cap.name);
             }
         }
+        rest = later;
         at += 1;
     }
 }

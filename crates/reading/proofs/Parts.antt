@@ -1,11 +1,10 @@
 -- Data parts where they lie on a shelf.
-use Rattle.std.proofs.Common.{◌≡◌, ℕ, zero, suc, ◌+◌, ◌-◌, ◌<◌, ◌≤◌, true, leb, List, [], ◌∷◌, length, get_or, is_ok, Ok, Err, Result, refl, ap, ◌∙◌, arith}
+use Rattle.std.proofs.Common.{◌≡◌, ℕ, zero, suc, ◌+◌, ◌-◌, ◌<◌, ◌≤◌, true, leb, List, [], ◌∷◌, length, get_or, is_ok, Ok, Result, refl, ap, ◌∙◌, arith}
 use Rattle.std.proofs.lemmas.Bool.{le-leb, and_from}
 use Rattle.std.proofs.lemmas.Option.{slice_get-get_or}
 use Rattle.std.specs.List.{slice_get}
 use Rattle.model.specs.declared.signals.Fault.{Fault}
 use Rattle.shelf.specs.Places.{is_place, found, length_at, element_at}
-use Rattle.scene.proofs.Filling.{not_ok}
 
 is_there : {E : Type 0} (xs : List E) (i : ℕ) → i < length xs → is_ok (found (slice_get xs i)) ≡ true
 is_there [] i l = absurd (omega arith)
@@ -20,9 +19,9 @@ module _ {E : Type 0} (p : ℕ) (low : 1 ≤ p) (high : p ≤ 160) (h : ℕ → 
   unfolding length_at
   length_told n e = let q : Ok n ≡ Ok (length (h p)) = rw a_place at e in cc
 
-  pub length_answers : (e : Fault) → Err e ≡ length_at p h → ⊥
+  pub length_answers : (r : Result ℕ Fault) → r ≡ length_at p h → is_ok r ≡ true
   unfolding length_at
-  length_answers e q = not_ok (rw a_place at q)
+  length_answers r e = ap is_ok e ∙ rw a_place
 
   -- an element by its index from 0
   element_is : (i : ℕ) → element_at p (i + 1) h ≡ found (slice_get (h p) i)

@@ -1,5 +1,5 @@
 // Data parts, read from a shelf that may be only readable.
-ghost use Rattle.std.specs.Prelude.{◌≡◌, ◌+◌, ◌≤◌, ◌++◌, length, take, drop, IfOk};
+ghost use Rattle.std.specs.Prelude.{◌≡◌, ◌+◌, ◌≤◌, length, take, drop, IfOk};
 ghost use Rattle.model.specs.Kalls.{block, replied, kall_getdata};
 ghost use Rattle.scene.specs.Abstract.{world};
 ghost use Rattle.reading.specs.Blocks.{Reads};
@@ -21,28 +21,18 @@ pub(crate) fn part_length<S: ReadableShelf>(tables: &Tables, shelf: &mut S, name
     let Some(place) = tables.home(name) else {
         return 0;
     };
-    match shelf.length(place) {
-        Ok(length) => length,
-        Err(_) => 0,
-    }
+    shelf.length(place).unwrap()
 }
 
-// The elements past `start`, to the buffer's front.
-fn copy<S: ReadableShelf>(
-    shelf: &mut S,
-    place: usize,
-    start: usize,
-    count: usize,
-    buffer: &mut [S::Element],
-)
+// The cells are given the elements past `start`.
+fn copy<S: ReadableShelf>(shelf: &mut S, place: usize, start: usize, cells: &mut [S::Element])
     requires place { (1 ≤ place) × (place ≤ 160) }
-    requires there { (start + count ≤ length (S.ReadableShelf.holds shelf.old place)) × (start + count ≤ 64) }
-    requires room { count ≤ length buffer.old }
+    requires there { (start + length cells.old ≤ length (S.ReadableShelf.holds shelf.old place)) × (start + length cells.old ≤ 64) }
     ensures same { S.ReadableShelf.holds shelf.new ≡ S.ReadableShelf.holds shelf.old }
-    ensures value { buffer.new ≡ take count (drop start (S.ReadableShelf.holds shelf.old place)) ++ drop count buffer.old }
+    ensures value { cells.new ≡ take (length cells.old) (drop start (S.ReadableShelf.holds shelf.old place)) }
 {
-    for i in 0..count {
-        buffer[i] = shelf.element(place, start + i + 1).unwrap();
+    for (i, cell) in cells.iter_mut().enumerate() {
+        *cell = shelf.element(place, start + i + 1).unwrap();
     }
 }
 
@@ -69,7 +59,7 @@ fn read_block<S: ReadableShelf>(
     };
     let start = disp - 1;
     let count = knt.min(length - start);
-    copy(shelf, place, start, count, buffer);
+    copy(shelf, place, start, &mut buffer[..count]);
     Ok(count)
 }
 

@@ -1,7 +1,9 @@
 // The kalls that ask for a length.
+// Each is shown the slip and lent the shelf: in one struct the two loans would want
+// two clauses more of every contract.
 ghost use Rattle.std.specs.Prelude.{◌≡◌};
-ghost use Rattle.model.specs.Kalls.{ended, read_at, kall_lenth, kall_clenth, kall_dlenth};
-ghost use Rattle.scene.specs.Abstract.{frame, world};
+ghost use Rattle.model.specs.Kalls.{read_at, kall_lenth, kall_clenth, kall_dlenth};
+ghost use Rattle.scene.specs.Abstract.{frame, Does, DoesAll};
 
 use crate::data::part_length;
 use model::kinds::Cap;
@@ -24,14 +26,7 @@ pub(crate) fn read_at<R: RightsRule>(
 {
     enter(scene, process, None, path.len())?;
     let target = walk(scene, &[LOADRTS], &[LOADRTS], process, path)?;
-    object_at(
-        scene,
-        &[right],
-        process,
-        target.holder,
-        target.index,
-        target.at,
-    )
+    object_at(scene, &[right], process, target.site)
 }
 
 // The length of the current name space.
@@ -41,7 +36,7 @@ pub fn lenth<R: RightsRule, S: ReadableShelf>(
     _shelf: &mut S,
     process: u32,
 ) -> Result<i32, Fault>
-    ensures { record { answer = result; after = world scene.new.tables (S.ReadableShelf.holds _shelf.new) } ≡ ended process (world scene.old.tables (S.ReadableShelf.holds _shelf.old)) (kall_lenth R.RightsRule.rule process (frame scene.old.tables)) }
+    ensures { Does process (kall_lenth R.RightsRule.rule process) scene.old.tables (S.ReadableShelf.holds _shelf.old) scene.new.tables (S.ReadableShelf.holds _shelf.new) result }
 {
     scene.tables.running(process)?;
     Ok(scene.tables.length(process) as i32)
@@ -55,7 +50,7 @@ pub fn clenth<R: RightsRule, S: ReadableShelf>(
     process: u32,
     path: &[u32],
 ) -> Result<i32, Fault>
-    ensures { record { answer = result; after = world scene.new.tables (S.ReadableShelf.holds _shelf.new) } ≡ ended process (world scene.old.tables (S.ReadableShelf.holds _shelf.old)) (kall_clenth R.RightsRule.rule process path.now (frame scene.old.tables)) }
+    ensures { Does process (kall_clenth R.RightsRule.rule process path.now) scene.old.tables (S.ReadableShelf.holds _shelf.old) scene.new.tables (S.ReadableShelf.holds _shelf.new) result }
 {
     let cap = read_at(scene, LOADRTS, process, path)?;
     Ok(scene.tables.list_length(cap.name) as i32)
@@ -69,7 +64,7 @@ pub fn dlenth<R: RightsRule, S: ReadableShelf>(
     process: u32,
     path: &[u32],
 ) -> Result<i32, Fault>
-    ensures { record { answer = result; after = world scene.new.tables (S.ReadableShelf.holds shelf.new) } ≡ ended process (world scene.old.tables (S.ReadableShelf.holds shelf.old)) (kall_dlenth R.RightsRule.rule process path.now (world scene.old.tables (S.ReadableShelf.holds shelf.old))) }
+    ensures { DoesAll process (kall_dlenth R.RightsRule.rule process path.now) scene.old.tables (S.ReadableShelf.holds shelf.old) scene.new.tables (S.ReadableShelf.holds shelf.new) result }
 {
     let cap = read_at(scene, GETRTS, process, path)?;
     Ok(part_length(&scene.tables, shelf, cap.name) as i32)

@@ -1,9 +1,9 @@
 // The kall that copies a slot into the current name space.
 ghost use Rattle.std.specs.Prelude.{◌≡◌};
-ghost use Rattle.model.specs.Kalls.{ended, kall_load};
-ghost use Rattle.scene.specs.Abstract.{frame, world};
+ghost use Rattle.model.specs.Kalls.{kall_load};
+ghost use Rattle.scene.specs.Abstract.{Does};
 
-use model::kinds::{Change, Holder};
+use model::kinds::{Change, Site, Target};
 use model::rights::LOADRTS;
 use model::signals::Fault;
 use paths::recode::changed;
@@ -21,19 +21,14 @@ pub fn load<R: RightsRule, S: ReadableShelf>(
     new: u32,
     path: &[u32],
 ) -> Result<i32, Fault>
-    ensures { record { answer = result; after = world scene.new.tables (S.ReadableShelf.holds _shelf.new) } ≡ ended process (world scene.old.tables (S.ReadableShelf.holds _shelf.old)) (kall_load R.RightsRule.rule process new path.now (frame scene.old.tables)) }
+    ensures { Does process (kall_load R.RightsRule.rule process new path.now) scene.old.tables (S.ReadableShelf.holds _shelf.old) scene.new.tables (S.ReadableShelf.holds _shelf.new) result }
 {
     enter(scene, process, None, path.len())?;
-    scene.tables.vacant(process, Holder::Mine, new, 0)?;
-    let target = walk(scene, &[LOADRTS], &[LOADRTS], process, path)?;
-    let slot = held(scene, &[], process, target.holder, target.index, target.at)?;
-    let copy = changed(
-        &scene.rule,
-        Change::Loaded {
-            clear: target.clear,
-        },
-        slot,
-    );
-    scene.tables.put_in(process, Holder::Mine, new, copy);
+    let here = Site::own(new);
+    scene.tables.vacant(process, here)?;
+    let Target { site, clear } = walk(scene, &[LOADRTS], &[LOADRTS], process, path)?;
+    let slot = held(scene, &[], process, site)?;
+    let copy = changed(&scene.rule, Change::Loaded { clear }, slot);
+    scene.tables.put_in(process, here, copy);
     Ok(0)
 }

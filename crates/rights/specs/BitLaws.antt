@@ -6,6 +6,7 @@ use Rattle.std.proofs.lemmas.Nat.{and_shr, or_shr, and_le_l, or_lt}
 use Rattle.std.proofs.Math.Dec.{eqb-suc-zero}
 use Rattle.std.proofs.Math.Pow.{pow-lt}
 use Rattle.std.proofs.lemmas.Bool.Decides.{nat_tests, Decides-below_and}
+use Rattle.std.proofs.Math.Bool.{and_assoc, or-false}
 use Rattle.std.proofs.lemmas.Bool.{ltb-true, lt-ltb, le-leb, and_parts, and_right}
 use Rattle.model.specs.Model.{Laws}
 use Rattle.rights.specs.Bits.{bits, valid_bits, bit}
@@ -41,23 +42,15 @@ masked c y = lt-ltb _ 2097152 (omega (arith, within c, and_le_l (as_bits c) y))
 marked : (c : ℕ) → bits.valid (bit_or (as_bits c) 1) ≡ true
 marked c = lt-ltb _ 2097152 (or_lt 21 (as_bits c) 1 (within c) (omega arith))
 
-regroup : (g x y : Bool) → (g && (x && y)) ≡ ((g && x) && y)
-regroup true x y = refl
-regroup false x y = refl
-
 spread : (g x y : Bool) → ((g && x) && y) ≡ ((g && x) && (g && y))
 spread true x y = refl
 spread false x y = refl
-
-alone : (x : Bool) → (x || false) ≡ true → x ≡ true
-alone true e = refl
-alone false e = e
 
 -- a masked code grants what both grant
 both : (k c y : ℕ) → (nat_le k 20 && bit (as_bits (bit_and (as_bits c) y)) k) ≡ ((nat_le k 20 && bit (as_bits c) k) && bit y k)
 both k c y =
     ap (λ (x : ℕ). nat_le k 20 && bit x k) (itself valid_bits _ (masked c y)) ∙ ap (λ (x : Bool). nat_le k 20 && x) (bit_of_and (as_bits c) y k)
-    ∙ regroup (nat_le k 20) (bit (as_bits c) k) (bit y k)
+    ∙ sym (and_assoc (nat_le k 20) (bit (as_bits c) k) (bit y k))
 
 deletes : (k c : ℕ) → k ≤ 20 → (nat_le k 20 && bit (as_bits (bit_or (as_bits c) 1)) k) ≡ ((nat_le k 20 && bit (as_bits c) k) || k == 0)
 deletes k c h =
@@ -70,7 +63,7 @@ guarded k a h e =
     ⊎_elim (λ p. ap (bit 2095613) p) (λ q. ⊎_elim (λ p. ap (bit 2095613) p) (λ p. ap (bit 2095613) p) q) h in
     let low : k ≤ 20 = grind arith in
     ap (λ (g : Bool). g && bit a k) (le-leb k 20 low)
-    ∙ alone (bit a k) (ap (λ (x : Bool). bit a k || x) (sym free) ∙ sym (bit_of_or a 2095613 k) ∙ e)
+    ∙ sym (or-false (bit a k)) ∙ ap (λ (x : Bool). bit a k || x) (sym free) ∙ sym (bit_of_or a 2095613 k) ∙ e
 
 -- the test p holds of each number below n
 abbrev every : (ℕ → Bool) → ℕ → Bool

@@ -1,6 +1,7 @@
 #![tactic(auto)]
 
 pub mod bits;
+pub(crate) mod codes;
 pub mod names;
 pub mod rule;
 pub mod steps;

@@ -1,6 +1,9 @@
 // What the kernel asks of a rights rule; it is generic in the rule.
 ghost use Rattle.std.specs.Prelude.{◌≡◌};
 ghost use Rattle.model.specs.Model.{Rule, Laws, InvalidAsZero};
+ghost use Rattle.model.specs.Plan.{code_ok};
+
+use model::signals::{Fault, Signal};
 
 pub trait RightsRule {
     ghost rule: { Rule };
@@ -29,4 +32,15 @@ pub trait RightsRule {
     ghost lawful: { Laws rule };
 
     ghost invalid: { InvalidAsZero rule };
+
+    // A code that a request names must be valid.
+    final fn check(&self, code: u32) -> Result<(), Fault>
+        ensures { result ≡ code_ok rule code }
+    {
+        if self.is_valid(code) {
+            Ok(())
+        } else {
+            Err(Fault::new(Signal::Smask, 0))
+        }
+    }
 }

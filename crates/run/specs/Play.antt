@@ -1,5 +1,5 @@
 -- Requests as they are asked, and what their owners read of them after a run.
-use Rattle.std.specs.Prelude.{◌≡◌, ℕ, List, [], ◌∷◌, map, ℤ, Some, vec_items, Option, Result}
+use Rattle.std.specs.Prelude.{◌≡◌, ℕ, Bool, List, [], ◌∷◌, map, ℤ, Some, None, is_some, vec_items, Option, Result}
 use Rattle.model.specs.declared.signals.Fault.{Fault}
 use Rattle.model.specs.declared.kinds.Name.{Name}
 use Rattle.model.specs.declared.kinds.Kall.{Kall}
@@ -8,8 +8,13 @@ use Rattle.model.specs.Model.{World, Rule}
 use Rattle.model.specs.Kalls.{Asked, Event, run}
 use Rattle.scene.specs.Abstract.{elements_at}
 
+-- the items of a buffer: none where there is no buffer
+abbrev pub items_in : {V E : Type 0} → (V → List E) → Option V → List E
+items_in items None = []
+items_in items (Some v) = items v
+
 abbrev pub ask : {E : Type 0} → Request E → Asked E
-ask q = record { caller = q.process; kall = q.kall; buffer = vec_items q.buffer }
+ask q = record { caller = q.process; kall = q.kall; buffer = items_in vec_items q.buffer }
 
 pub record View (E : Type 0) : Type 0 where
   pub caller : ℕ
@@ -18,7 +23,11 @@ pub record View (E : Type 0) : Type 0 where
   pub answer : Option (Result ℤ Fault)
 
 abbrev pub view : {E : Type 0} → Request E → View E
-view q = record { caller = q.process; kall = q.kall; buffer = vec_items q.buffer; answer = q.answer }
+view q = record { caller = q.process; kall = q.kall; buffer = items_in vec_items q.buffer; answer = q.answer }
+
+-- whether a request has a buffer of its own
+abbrev pub has_buffer : {E : Type 0} → Request E → Bool
+has_buffer q = is_some q.buffer
 
 -- what an event tells the owner of its request
 abbrev pub told : {E : Type 0} → Event E → View E

@@ -4,9 +4,9 @@ ghost use Rattle.model.specs.Kalls.{plan, replied, serve};
 ghost use Rattle.model.specs.SetUp.{reckoning};
 ghost use Rattle.model.specs.Isolation.{Isolates};
 ghost use Rattle.scene.specs.Abstract.{world};
-ghost use Rattle.run.specs.Play.{ask, view, told, played, afterwards, LiesOn};
+ghost use Rattle.run.specs.Play.{ask, view, has_buffer, told, played, afterwards, LiesOn};
 
-use model::kinds::{Kall, Request};
+use model::kinds::{Fetch, Kall, Move, Request};
 use model::signals::Fault;
 use moving::moves::{delete, interchange, pass, take};
 use reading::data::getdata;
@@ -18,78 +18,42 @@ use scene::setup::SetUp;
 use shelf::traits::WritableShelf;
 use storing::stores::{append, passappend, store};
 
+// A match, since each kind of kall has arguments of its own.
 fn perform<R: RightsRule, S: WritableShelf>(
     scene: &mut Scene<R>,
     slip: &Slip,
     shelf: &mut S,
     process: u32,
     kall: &Kall,
-    buffer: &mut Vec<S::Element>,
+    buffer: &mut [S::Element],
 ) -> Result<i32, Fault>
-    ensures { record { answer = result; buffer = buffer.new.items; after = world scene.new.tables (S.ReadableShelf.holds shelf.new) } ≡ replied process buffer.old.items (world scene.old.tables (S.ReadableShelf.holds shelf.old)) (plan R.RightsRule.rule process kall.now buffer.old.items (world scene.old.tables (S.ReadableShelf.holds shelf.old))) }
+    ensures { record { answer = result; buffer = buffer.new; after = world scene.new.tables (S.ReadableShelf.holds shelf.new) } ≡ replied process buffer.old (world scene.old.tables (S.ReadableShelf.holds shelf.old)) (plan R.RightsRule.rule process kall.now buffer.old (world scene.old.tables (S.ReadableShelf.holds shelf.old))) }
 {
     match kall {
         Kall::Lenth => lenth(scene, slip, shelf, process),
-        Kall::Clenth { path } => clenth(scene, slip, shelf, process, path.as_slice()),
-        Kall::Dlenth { path } => dlenth(scene, slip, shelf, process, path.as_slice()),
-        Kall::Getdata { path, disp, knt } => getdata(
-            scene,
-            slip,
-            shelf,
-            process,
-            path.as_slice(),
-            *disp,
-            *knt,
-            buffer.as_mut_slice(),
-        ),
-        Kall::Load { new, path } => load(scene, slip, shelf, process, *new, path.as_slice()),
-        Kall::Pass { path, cur, mask } => pass(
-            scene,
-            slip,
-            shelf,
-            process,
-            path.as_slice(),
-            *cur,
-            *mask,
-        ),
-        Kall::Take { new, path } => take(scene, slip, shelf, process, *new, path.as_slice()),
-        Kall::Store { path, cur, mask } => store(
-            scene,
-            slip,
-            shelf,
-            process,
-            path.as_slice(),
-            *cur,
-            *mask,
-        ),
-        Kall::Append { path, cur, mask } => append(
-            scene,
-            slip,
-            shelf,
-            process,
-            path.as_slice(),
-            *cur,
-            *mask,
-        ),
-        Kall::Passappend { path, cur, mask } => passappend(
-            scene,
-            slip,
-            shelf,
-            process,
-            path.as_slice(),
-            *cur,
-            *mask,
-        ),
-        Kall::Delete { path } => delete(scene, slip, shelf, process, path.as_slice()),
-        Kall::Interchange { path, cur, mask } => interchange(
-            scene,
-            slip,
-            shelf,
-            process,
-            path.as_slice(),
-            *cur,
-            *mask,
-        ),
+        Kall::Clenth(path) => clenth(scene, slip, shelf, process, path),
+        Kall::Dlenth(path) => dlenth(scene, slip, shelf, process, path),
+        Kall::Getdata { path, disp, knt } => {
+            getdata(scene, slip, shelf, process, path, *disp, *knt, buffer)
+        }
+        Kall::Load(Fetch { new, path }) => load(scene, slip, shelf, process, *new, path),
+        Kall::Pass(Move { path, cur, mask }) => {
+            pass(scene, slip, shelf, process, path, *cur, *mask)
+        }
+        Kall::Take(Fetch { new, path }) => take(scene, slip, shelf, process, *new, path),
+        Kall::Store(Move { path, cur, mask }) => {
+            store(scene, slip, shelf, process, path, *cur, *mask)
+        }
+        Kall::Append(Move { path, cur, mask }) => {
+            append(scene, slip, shelf, process, path, *cur, *mask)
+        }
+        Kall::Passappend(Move { path, cur, mask }) => {
+            passappend(scene, slip, shelf, process, path, *cur, *mask)
+        }
+        Kall::Delete(path) => delete(scene, slip, shelf, process, path),
+        Kall::Interchange(Move { path, cur, mask }) => {
+            interchange(scene, slip, shelf, process, path, *cur, *mask)
+        }
     }
 }
 
@@ -101,16 +65,15 @@ pub fn serve<R: RightsRule, S: WritableShelf>(
     request: &mut Request<S::Element>,
 )
     ensures view { view request.new ≡ told (serve R.RightsRule.rule (ask request.old) (world scene.old.tables (S.ReadableShelf.holds shelf.old))) }
+    ensures given { has_buffer request.new ≡ has_buffer request.old }
     ensures after { world scene.new.tables (S.ReadableShelf.holds shelf.new) ≡ (serve R.RightsRule.rule (ask request.old) (world scene.old.tables (S.ReadableShelf.holds shelf.old))).world }
 {
-    let answer = perform(
-        scene,
-        slip,
-        shelf,
-        request.process,
-        &request.kall,
-        &mut request.buffer,
-    );
+    let process = request.process;
+    let kall = &request.kall;
+    let answer = match &mut request.buffer {
+        Some(buffer) => perform(scene, slip, shelf, process, kall, buffer.as_mut_slice()),
+        None => perform(scene, slip, shelf, process, kall, &mut []),
+    };
     request.answer = Some(answer);
 }
 
@@ -121,6 +84,7 @@ pub fn serve_all<R: RightsRule, S: WritableShelf>(
     requests: &mut [Request<S::Element>],
 )
     ensures answers { map view requests.new ≡ played R.RightsRule.rule (world scene.old.tables (S.ReadableShelf.holds shelf.old)) requests.old }
+    ensures given { map has_buffer requests.new ≡ map has_buffer requests.old }
     ensures after { world scene.new.tables (S.ReadableShelf.holds shelf.new) ≡ afterwards R.RightsRule.rule (world scene.old.tables (S.ReadableShelf.holds shelf.old)) requests.old }
 {
     for request in requests.iter_mut() {
@@ -135,6 +99,7 @@ pub fn play<R: RightsRule + Drop, S: WritableShelf>(
     requests: &mut [Request<S::Element>],
 ) -> Reckoning
     ensures answers { map view requests.new ≡ played R.RightsRule.rule (world set_up.tables (S.ReadableShelf.holds shelf.old)) requests.old }
+    ensures given { map has_buffer requests.new ≡ map has_buffer requests.old }
     ensures reckoned { result.living ≡ reckoning (afterwards R.RightsRule.rule (world set_up.tables (S.ReadableShelf.holds shelf.old)) requests.old).frame }
     ensures shelved { LiesOn (S.ReadableShelf.holds shelf.new) (afterwards R.RightsRule.rule (world set_up.tables (S.ReadableShelf.holds shelf.old)) requests.old).elements }
     ensures isolated { Isolates R.RightsRule.rule (world set_up.tables (S.ReadableShelf.holds shelf.old)) (map ask requests.old) }

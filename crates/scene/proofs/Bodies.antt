@@ -1,228 +1,127 @@
-use Rattle.std.proofs.Common.{◌≡◌, ℕ, zero, suc, ◌+◌, ◌-◌, ◌*◌, ◌<◌, ◌≤◌, Bool, true, false, cond, eqb, ◌≢◌, ◌⊎◌, List, [], ◌∷◌, length, get_or, take, drop, set, Some, None, Option, sym, refl, ap, ◌∙◌, subst, ap₂, inl, inr, ⊎_elim, arith, drop-cons, get_or-set_other, get_or-set_same}
-use mathlib.Core.Path.{fun_ext}
-use native.Mathlib.Nat.{min-le_left}
-use Rattle.std.proofs.lemmas.List.{length-take}
-use Rattle.std.proofs.lemmas.Bool.{eq-eqb, ne_eqb, eqb-true, cases_Bool, cases_eq, cases_lt, and_parts, and_from}
-use Rattle.std.proofs.lemmas.Bool.Decides.{nat_tests}
-use Rattle.model.specs.declared.kinds.Slot.{Slot}
-use Rattle.scene.specs.declared.kinds.Row.{Row}
-use Rattle.model.specs.Plan.{places}
-use Rattle.scene.specs.Places.{seek, row_at, place_of, base_of}
-use Rattle.scene.specs.declared.kinds.Process.{Process}
-use Rattle.model.specs.declared.kinds.Slot.TheVariants.{Empty}
+-- Objects and their lists.
+use Rattle.std.proofs.Common.{◌≡◌, ℕ, ◌+◌, ◌*◌, ◌<◌, ◌≤◌, true, false, List, length, get_or, set, Some, None, Option, option_map, option_and_then, is_some, sym, refl, ap, ◌∙◌, subst, inl, inr, ⊎_elim, arith}
+use Rattle.std.proofs.lemmas.Bool.{cases_lt}
+use Rattle.std.proofs.lemmas.List.{length-take-le, length-drop, set_past}
 use Rattle.model.specs.declared.kinds.Name.{Name}
+use Rattle.model.specs.declared.kinds.Slot.{Slot}
 use Rattle.model.specs.Model.{Body}
+use Rattle.std.specs.Option.{option_map_or}
+use Rattle.model.specs.Plan.{places, lives, last_filled, list_of}
 use Rattle.model.specs.Kalls.{same_name, on_object, lifted, relisted, put_listed}
-use Rattle.scene.specs.Abstract.{frame_of, process_of, object_of, living_of, count, body_at, body_from, lot}
+use Rattle.scene.specs.declared.kinds.Object.{Object}
+use Rattle.scene.specs.declared.kinds.Process.{Process}
+use Rattle.scene.specs.Places.{base_of, is_numbered, place_of}
+use Rattle.scene.specs.Abstract.{frame_of, process_of, object_of, living_of, list_at, body_at}
+use Rattle.scene.proofs.Windows.{window_set, window_other}
+use Rattle.scene.proofs.Places.{found, named, same_number, shares}
+use Rattle.scene.proofs.Changed.{at_name, name_other}
 
-pub record Found (rows : List Row) (n k i p : ℕ) : Type 0 where
-  pub number : (row_at rows p).number ≡ n
-  pub low : i ≤ p
-  pub high : p < i + k
+pub list_set : (slots : List Slot) (p i : ℕ) (v : Slot) → i < 8 → list_at (set slots (8 * p + i) v) p ≡ set (list_at slots p) i v
+unfolding list_at
+list_set slots p i v h = window_set slots (8 * p) 8 v i h
 
-some_is : (p q : ℕ) → ◌≡◌ {A = Option ℕ} (Some p) (Some q) → p ≡ q
-some_is p q e = cc
+pub list_other : (slots : List Slot) (p q i : ℕ) (v : Slot) → i < 8 → (q ≡ p → ⊥) → list_at (set slots (8 * p + i) v) q ≡ list_at slots q
+unfolding list_at
+list_other slots p q i v h ne = window_other slots (8 * q) 8 v (8 * p + i) (⊎_elim (λ (l : p < q). inl (omega arith)) (λ (l : q ≤ p). inr (omega arith)) (cases_lt p q))
 
-not_some : (q : ℕ) → ◌≡◌ {A = Option ℕ} None (Some q) → ⊥
-not_some q e = let z : ◌≡◌ {A = ℕ} 0 1 = cc in omega arith
+pub list_long : (slots : List Slot) (p : ℕ) → 8 * p + 8 ≤ length slots → length (list_at slots p) ≡ 8
+unfolding list_at
+list_long slots p h = length-take-le 8 _ (omega (arith, length-drop (8 * p) slots))
 
-pub seek_found : (rows : List Row) (n k i p : ℕ) → seek rows n k i ≡ Some p → Found rows n k i p
-unfolding seek
-seek_found rows n zero i p e = absurd (not_some p e)
-seek_found rows n (suc k) i p e =
-    ⊎_elim
-    (λ t. let f : i ≡ p = some_is i p (rw t at e) in
-    record { number = subst (λ (x : ℕ). (row_at rows x).number ≡ n) f (eqb-true (row_at rows i).number n t); low = omega arith; high = omega arith })
-    (λ t. let r = seek_found rows n k (suc i) p (rw t at e) in
-    record { number = r.number; low = omega arith; high = omega arith })
-    (cases_Bool (eqb (row_at rows i).number n))
+-- where the object of a name lies
+pub record At (objects : List (Option Object)) (n : Name) (p : ℕ) : Type 0 where
+  pub index : ℕ
+  pub is : p ≡ base_of n.share + index
+  pub within : index < places n.share
+  pub numbered : is_numbered n.number (get_or objects p None) ≡ true
 
--- rows that have a number at the same places
-pub seek_like : (rows rows' : List Row) (n k i : ℕ) → ((j : ℕ) → i ≤ j → j < i + k → eqb (row_at rows j).number n ≡ eqb (row_at rows' j).number n) → seek rows n k i ≡ seek rows' n k i
-unfolding seek
-seek_like rows rows' n zero i h = refl
-seek_like rows rows' n (suc k) i h =
-    let here : eqb (row_at rows i).number n ≡ eqb (row_at rows' i).number n = h i (omega arith) (omega arith) in
-    let more : seek rows n k (suc i) ≡ seek rows' n k (suc i) = seek_like rows rows' n k (suc i) (λ j a b. h j (omega arith) (omega arith)) in
-    rw (here, more)
+pub at : (objects : List (Option Object)) (n : Name) (p : ℕ) → length objects ≡ 160 → Some p ≡ place_of objects n.share n.number → At objects n p
+at objects n p long e =
+    let f = found objects (is_numbered n.number) n.share p long e in
+    record { index = f.index; is = f.is; within = f.within; numbered = f.passes }
 
--- nothing has the number
-pub seek_nowhere : (rows : List Row) (n k i : ℕ) → ((j : ℕ) → i ≤ j → j < i + k → (row_at rows j).number ≡ n → ⊥) → seek rows n k i ≡ None
-unfolding seek
-seek_nowhere rows n zero i h = refl
-seek_nowhere rows n (suc k) i h =
-    rw (ne_eqb (row_at rows i).number n (h i (omega arith) (omega arith))) (seek_nowhere rows n k (suc i) (λ j a b. h j (omega arith) (omega arith)))
+pub one_place : (objects : List (Option Object)) (m n : Name) (p q : ℕ) → At objects m q → At objects n p → same_name m n ≡ false → q ≡ p → ⊥
+one_place objects m n p q f g t same =
+    name_other m n t
+    (shares m.share n.share p (omega (arith, f.is)) (omega (arith, f.is, f.within)) (omega (arith, g.is)) (omega (arith, g.is, g.within)))
+    (same_number m.number n.number (get_or objects p None) (subst (λ (x : ℕ). is_numbered m.number (get_or objects x None) ≡ true) same f.numbered) g.numbered)
 
-pub count_like : (rows rows' : List Row) (k i : ℕ) → ((j : ℕ) → i ≤ j → j < i + k → eqb (row_at rows j).number 0 ≡ eqb (row_at rows' j).number 0) → count rows k i ≡ count rows' k i
-unfolding count
-count_like rows rows' zero i h = refl
-count_like rows rows' (suc k) i h =
-    let here : eqb (row_at rows i).number 0 ≡ eqb (row_at rows' i).number 0 = h i (omega arith) (omega arith) in
-    let more : count rows k (suc i) ≡ count rows' k (suc i) = count_like rows rows' k (suc i) (λ j a b. h j (omega arith) (omega arith)) in
-    rw (here, more)
-
-pub place_found : (rows : List Row) (s n p : ℕ) → place_of rows s n ≡ Some p → Found rows n (places s) (base_of s) p × (n ≡ 0 → ⊥)
-place_found rows s n p e =
-    ⊎_elim
-    (λ t. absurd (not_some p (rw (eq-eqb n 0 t) at e)))
-    (λ t. (seek_found rows n (places s) (base_of s) p (rw (ne_eqb n 0 t) at e), t))
-    (cases_eq n 0)
-
-pub shares : (s s' p : ℕ) → base_of s ≤ p → p < base_of s + places s → base_of s' ≤ p → p < base_of s' + places s' → s ≡ s'
-shares s s' p a b c d = grind (arith, nat_tests)
-
--- two tables of rows that differ at the place p alone: a name that is at neither row there lies where it was
-pub place_like : (rows rows' : List Row) (s n p : ℕ) → ((j : ℕ) → (j ≡ p → ⊥) → (row_at rows' j).number ≡ (row_at rows j).number)
-    → (base_of s ≤ p → p < base_of s + places s → (n ≡ 0 → ⊥) → ((row_at rows' p).number ≡ n → ⊥) × ((row_at rows p).number ≡ n → ⊥))
-    → place_of rows' s n ≡ place_of rows s n
-place_like rows rows' s n p kept off =
-    ⊎_elim
-    (λ (z : n ≡ 0). rw (eq-eqb n 0 z))
-    (λ (z : n ≡ 0 → ⊥). rw (ne_eqb n 0 z) (seek_like rows' rows n (places s) (base_of s) (λ j a b.
-    ⊎_elim
-    (λ (q : j ≡ p).
-    let o = off (subst (λ (x : ℕ). base_of s ≤ x) q a) (subst (λ (x : ℕ). x < base_of s + places s) q b) z in
-    rw q (ne_eqb (row_at rows' p).number n o.0 ∙ sym (ne_eqb (row_at rows p).number n o.1)))
-    (λ (q : j ≡ p → ⊥). ap (λ (x : ℕ). eqb x n) (kept j q))
-    (cases_eq j p))))
-    (cases_eq n 0)
-
--- and another share than that of the place has as many living
-pub living_like : (rows rows' : List Row) (s t p : ℕ) → ((j : ℕ) → (j ≡ p → ⊥) → (row_at rows' j).number ≡ (row_at rows j).number)
-    → base_of s ≤ p → p < base_of s + places s → (t ≡ s → ⊥) → living_of rows' t ≡ living_of rows t
-unfolding living_of
-living_like rows rows' s t p kept low high other =
-    count_like rows' rows (places t) (base_of t) (λ j a b.
-    ap (λ (x : ℕ). eqb x 0) (kept j (λ q. other (shares t s p (subst (λ (x : ℕ). base_of t ≤ x) q a) (subst (λ (x : ℕ). x < base_of t + places t) q b) low high))))
-
-pub inside : (rows : List Row) (p n : ℕ) → (row_at rows p).number ≡ n → (n ≡ 0 → ⊥) → p < length rows
-inside [] p n e h = absurd (h (sym e))
-inside (r ∷ rows) zero n e h = omega arith
-inside (r ∷ rows) (suc p) n e h = let t = inside rows p n e h in omega arith
-
--- slots of a lot
-pub lot_at : (xs : List Slot) (b k i : ℕ) → i < k → get_or (lot xs b k) i Empty ≡ get_or xs (b + i) Empty
-unfolding lot
-lot_at xs b zero i h = absurd (omega arith)
-lot_at xs b (suc k) zero h = let e : b + 0 ≡ b = omega arith in rw e
-lot_at xs b (suc k) (suc i) h = let e : b + suc i ≡ suc b + i = omega arith in rw e (lot_at xs (suc b) k i (omega arith))
-
-pub lot_other : (xs : List Slot) (j : ℕ) (v : Slot) (b k : ℕ) → (j < b) ⊎ (b + k ≤ j) → lot (set xs j v) b k ≡ lot xs b k
-unfolding lot
-lot_other xs j v b zero h = refl
-lot_other xs j v b (suc k) h =
-    let ne : b ≢ j = λ e. ⊎_elim (λ l. omega arith) (λ l. omega arith) h in
-    let more : (j < suc b) ⊎ (suc b + k ≤ j) = ⊎_elim (λ l. inl (omega arith)) (λ l. inr (omega arith)) h in
-    rw (get_or-set_other xs j b v Empty ne, lot_other xs j v (suc b) k more)
-
-pub lot_set : (xs : List Slot) (b k i : ℕ) (v : Slot) → i < k → b + k ≤ length xs → lot (set xs (b + i) v) b k ≡ set (lot xs b k) i v
-unfolding lot
-lot_set xs b zero i v h l = absurd (omega arith)
-lot_set xs b (suc k) zero v h l =
-    let e : b + 0 ≡ b = omega arith in
-    subst (λ (j : ℕ). lot (set xs j v) b (suc k) ≡ set (lot xs b (suc k)) 0 v) (sym e) (ap₂ (λ (x : Slot) (l : List Slot). x ∷ l) (get_or-set_same xs b v Empty (omega arith)) (lot_other xs b v (suc b) k (inl (omega arith))))
-lot_set xs b (suc k) (suc i) v h l =
-    let e : b + suc i ≡ suc b + i = omega arith in
-    let ne : b ≢ suc b + i = λ q. omega arith in
-    subst (λ (j : ℕ). lot (set xs j v) b (suc k) ≡ set (lot xs b (suc k)) (suc i) v) (sym e) (ap₂ (λ (x : Slot) (l : List Slot). x ∷ l) (get_or-set_other xs (suc b + i) b v Empty ne) (lot_set xs (suc b) k i v (omega arith) (omega arith)))
-
-lot_past : (xs : List Slot) (b k i : ℕ) (v : Slot) → k ≤ i → set (lot xs b k) i v ≡ lot xs b k
-unfolding lot
-lot_past xs b zero i v h = refl
-lot_past xs b (suc k) zero v h = absurd (omega arith)
-lot_past xs b (suc k) (suc i) v h = ap (λ (t : List Slot). get_or xs b Empty ∷ t) (lot_past xs (suc b) k i v (omega arith))
-
--- a lot is a part of the slots
-pub lot_part : (xs : List Slot) (b k : ℕ) → b + k ≤ length xs → lot xs b k ≡ take k (drop b xs)
-unfolding lot
-lot_part xs b zero h = refl
-lot_part xs b (suc k) h = rw (drop-cons xs b Empty (omega arith), lot_part xs (suc b) k (omega arith))
-
-pub lot_eight : (xs : List Slot) (b : ℕ) → b + 8 ≤ length xs → take ((b + 8) - b) (drop b xs) ≡ lot xs b 8
-lot_eight xs b h = let e : (b + 8) - b ≡ 8 = omega arith in rw e (sym (lot_part xs b 8 h))
-
-pub eight_long : (ys : List Slot) (b : ℕ) → length (take ((b + 8) - b) ys) ≤ 8
-eight_long ys b = let e : (b + 8) - b ≡ 8 = omega arith in rw (e, length-take) (min-le_left 8 (length ys))
-
--- names
-pub both : (m n : Name) → same_name m n ≡ true → (m.share ≡ n.share) × (m.number ≡ n.number)
-both m n t = let h = and_parts (eqb m.share n.share) (eqb m.number n.number) t in (eqb-true m.share n.share h.0, eqb-true m.number n.number h.1)
-
-pub not_both : (m n : Name) → same_name m n ≡ false → m.share ≡ n.share → m.number ≡ n.number → ⊥
-not_both m n t a b = let z : ◌≡◌ {A = Bool} true false = sym (and_from (eqb m.share n.share) (eqb m.number n.number) (eq-eqb m.share n.share a) (eq-eqb m.number n.number b)) ∙ t in let y : ◌≡◌ {A = ℕ} 0 1 = cc in omega arith
-
--- two names that are kept at one place are one
-pub one_place : (rows : List Row) (m n : Name) (p q : ℕ) → place_of rows m.share m.number ≡ Some p → place_of rows n.share n.number ≡ Some q → p ≡ q → same_name m n ≡ false → ⊥
-one_place rows m n p q e d same t =
-    let f = place_found rows m.share m.number p e in
-    let g = place_found rows n.share n.number q d in
-    not_both m n t
-    (shares m.share n.share q (subst (λ (x : ℕ). base_of m.share ≤ x) same f.0.low) (subst (λ (x : ℕ). x < base_of m.share + places m.share) same f.0.high) g.0.low g.0.high)
-    (sym f.0.number ∙ ap (λ (x : ℕ). (row_at rows x).number) same ∙ g.0.number)
-
--- the slot i of the object at p is put
-module _ (rows : List Row) (slots : List Slot) (n : Name) (p i : ℕ) (v : Slot) (found : place_of rows n.share n.number ≡ Some p) (small : i < 8) (fits : 8 * p + 8 ≤ length slots) where
-  put_there : (m : Name) (o : Option ℕ) → same_name m n ≡ false → place_of rows m.share m.number ≡ o → body_from rows (set slots (8 * p + i) v) o ≡ body_from rows slots o
-  put_there m None t e = refl
-  put_there m (Some q) t e =
-      let ne : q ≡ p → ⊥ = λ same. one_place rows m n q p e found same t in
-      let away : (8 * p + i < 8 * q) ⊎ (8 * q + 8 ≤ 8 * p + i) = ⊎_elim (λ (l : p < q). inl (omega arith)) (λ (l : q ≤ p). inr (omega arith)) (cases_lt p q) in
-      ap (λ (l : List Slot). Some (record { kind = (row_at rows q).kind; list = l })) (lot_other slots (8 * p + i) v (8 * q) 8 away)
-
-  pub put_object : object_of rows (set slots (8 * p + i) v) ≡ (λ m. cond (same_name m n) (lifted (relisted (λ l. set l i v)) (object_of rows slots m)) (object_of rows slots m))
+module _ (objects : List (Option Object)) (slots : List Slot) (n : Name) where
+  pub object_none : None ≡ place_of objects n.share n.number → object_of objects slots n ≡ None
   unfolding object_of
-  put_object = fun_ext (λ m.
-      ⊎_elim
-      (λ t. let b = both m n t in
-      let e : place_of rows m.share m.number ≡ Some p = rw (b.0, b.1) found in
-      rw t (subst (λ (o : Option ℕ). body_from rows (set slots (8 * p + i) v) o ≡ lifted (relisted (λ l. set l i v)) (body_from rows slots o)) (sym e)
-      (ap (λ (l : List Slot). Some (record { kind = (row_at rows p).kind; list = l })) (lot_set slots (8 * p) 8 i v small fits))))
-      (λ t. rw t (put_there m (place_of rows m.share m.number) t refl))
-      (cases_Bool (same_name m n)))
+  object_none e = ap (option_and_then (body_at objects slots)) (sym e)
 
-pub object_none : (rows : List Row) (slots : List Slot) (n : Name) → None ≡ place_of rows n.share n.number → object_of rows slots n ≡ None
-unfolding object_of
-object_none rows slots n e = ap (body_from rows slots) (sym e)
-
-pub object_some : (rows : List Row) (slots : List Slot) (n : Name) (p : ℕ) → Some p ≡ place_of rows n.share n.number → object_of rows slots n ≡ Some (body_at rows slots p)
-unfolding object_of
-object_some rows slots n p e = ap (body_from rows slots) (sym e)
-
--- a change that changes nothing of the one object
-nothing_put : (rows : List Row) (slots : List Slot) (n : Name) (g : Option Body → Option Body) → ((m : Name) → same_name m n ≡ true → object_of rows slots m ≡ g (object_of rows slots m)) → object_of rows slots ≡ (λ m. cond (same_name m n) (g (object_of rows slots m)) (object_of rows slots m))
-nothing_put rows slots n g h = fun_ext (λ m. ⊎_elim (λ t. rw t (h m t)) (λ t. rw t) (cases_Bool (same_name m n)))
-
-module _ (rows : List Row) (slots : List Slot) (given : List ℕ) (ps : List Process) (n : Name) (i : ℕ) (v : Slot) where
-  pub put_frame : (p : ℕ) → Some p ≡ place_of rows n.share n.number → i < 8 → 8 * p + 8 ≤ length slots → frame_of rows (set slots (8 * p + i) v) given ps ≡ put_listed n i v (frame_of rows slots given ps)
-  unfolding on_object put_listed
-  put_frame p found small fits =
-      λ j. record { object = put_object rows slots n p i v (sym found) small fits j; living = living_of rows; given = λ s. get_or given s 0; process = process_of ps }
-
-  pub put_none : None ≡ place_of rows n.share n.number → frame_of rows slots given ps ≡ put_listed n i v (frame_of rows slots given ps)
-  unfolding on_object put_listed
-  put_none none =
-      λ j. record {
-        object = nothing_put rows slots n (lifted (relisted (λ l. set l i v)))
-            (λ m t. let b = both m n t in let e = object_none rows slots m (rw (b.0, b.1) none) in e ∙ sym (ap (lifted (relisted (λ l. set l i v))) e)) j;
-        living = living_of rows;
-        given = λ s. get_or given s 0;
-        process = process_of ps;
-      }
-
-  body_past : 8 ≤ i → (o : Option ℕ) → body_from rows slots o ≡ lifted (relisted (λ l. set l i v)) (body_from rows slots o)
-  body_past far None = refl
-  body_past far (Some q) = ap (λ (l : List Slot). Some (record { kind = (row_at rows q).kind; list = l })) (sym (lot_past slots (8 * q) 8 i v far))
-
-  object_past : 8 ≤ i → (m : Name) → object_of rows slots m ≡ lifted (relisted (λ l. set l i v)) (object_of rows slots m)
+  pub object_some : (p : ℕ) → Some p ≡ place_of objects n.share n.number → object_of objects slots n ≡ body_at objects slots p
   unfolding object_of
-  object_past far m = body_past far (place_of rows m.share m.number)
+  object_some p e = ap (option_and_then (body_at objects slots)) (sym e)
 
-  pub put_past : 8 ≤ i → frame_of rows slots given ps ≡ put_listed n i v (frame_of rows slots given ps)
+-- a name lives where an object of it is found
+pub lives_is : (objects : List (Option Object)) (slots : List Slot) (given : List ℕ) (ps : List (Option Process)) (n : Name) (r : Option ℕ) → length objects ≡ 160 → r ≡ place_of objects n.share n.number → lives (frame_of objects slots given ps) n ≡ is_some r
+lives_is objects slots given ps n None long e = rw (object_none objects slots n e)
+lives_is objects slots given ps n (Some p) long e =
+    let a = at objects n p long e in
+    let x = named n.number (get_or objects p None) a.numbered in
+    rw (object_some objects slots n p e, x.is)
+
+-- tables in which a name lies where it was, with the same object
+pub object_kept : (objects objects' : List (Option Object)) (slots slots' : List Slot) (m : Name) → place_of objects' m.share m.number ≡ place_of objects m.share m.number
+    → ((q : ℕ) → Some q ≡ place_of objects m.share m.number → body_at objects' slots' q ≡ body_at objects slots q)
+    → object_of objects' slots' m ≡ object_of objects slots m
+unfolding object_of
+object_kept objects objects' slots slots' m same body = ap (option_and_then (body_at objects' slots')) same ∙ go (place_of objects m.share m.number) refl
+  where
+    go : (o : Option ℕ) → place_of objects m.share m.number ≡ o → option_and_then (body_at objects' slots') o ≡ option_and_then (body_at objects slots) o
+    go None e = refl
+    go (Some q) e = body q (sym e)
+
+relist : (l l' : List Slot) (g : List Slot → List Slot) (x : Option Object) → l' ≡ g l
+    → ◌≡◌ {A = Option Body} (option_map (λ (o : Object). record { kind = o.kind; list = l' }) x) (lifted (relisted g) (option_map (λ (o : Object). record { kind = o.kind; list = l }) x))
+relist l l' g None e = refl
+relist l l' g (Some o) e = λ j. Some (record { kind = o.kind; list = e j })
+
+-- the slot i of the object's list is put
+module _ (objects : List (Option Object)) (slots : List Slot) (given : List ℕ) (ps : List (Option Process)) (n : Name) (i : ℕ) (v : Slot) where
+  module _ (p : ℕ) (long : length objects ≡ 160) (is : Some p ≡ place_of objects n.share n.number) (small : i < 8) where
+    put_other : (m : Name) → same_name m n ≡ false → object_of objects (set slots (8 * p + i) v) m ≡ object_of objects slots m
+    put_other m t =
+        object_kept objects objects slots (set slots (8 * p + i) v) m refl
+        (λ q e. ap (λ (l : List Slot). option_map (λ (o : Object). record { kind = o.kind; list = l }) (get_or objects q None))
+        (list_other slots p q i v small (one_place objects m n p q (at objects m q long e) (at objects n p long is) t)))
+
+    put_here : object_of objects (set slots (8 * p + i) v) n ≡ lifted (relisted (λ l. set l i v)) (object_of objects slots n)
+    put_here =
+        object_some objects (set slots (8 * p + i) v) n p is
+        ∙ relist (list_at slots p) (list_at (set slots (8 * p + i) v) p) (λ l. set l i v) (get_or objects p None) (list_set slots p i v small)
+        ∙ sym (ap (lifted (relisted (λ l. set l i v))) (object_some objects slots n p is))
+
+    pub put_frame : frame_of objects (set slots (8 * p + i) v) given ps ≡ put_listed n i v (frame_of objects slots given ps)
+    unfolding on_object put_listed
+    put_frame = λ j. record {
+      object = at_name (lifted (relisted (λ l. set l i v))) n (object_of objects slots) (object_of objects (set slots (8 * p + i) v)) put_here put_other j;
+      living = living_of objects;
+      given = λ s. get_or given s 0;
+      process = process_of ps;
+    }
+
+  -- where nothing is put
+  kept_frame : object_of objects slots n ≡ lifted (relisted (λ l. set l i v)) (object_of objects slots n) → frame_of objects slots given ps ≡ put_listed n i v (frame_of objects slots given ps)
   unfolding on_object put_listed
-  put_past far =
-      λ j. record {
-        object = nothing_put rows slots n (lifted (relisted (λ l. set l i v))) (λ m t. object_past far m) j;
-        living = living_of rows;
-        given = λ s. get_or given s 0;
-        process = process_of ps;
-      }
+  kept_frame same = λ j. record {
+    object = at_name (lifted (relisted (λ l. set l i v))) n (object_of objects slots) (object_of objects slots) same (λ m t. refl) j;
+    living = living_of objects;
+    given = λ s. get_or given s 0;
+    process = process_of ps;
+  }
+
+  pub put_none : None ≡ place_of objects n.share n.number → frame_of objects slots given ps ≡ put_listed n i v (frame_of objects slots given ps)
+  put_none e = let o = object_none objects slots n e in kept_frame (o ∙ sym (ap (lifted (relisted (λ l. set l i v))) o))
+
+  pub put_past : (p : ℕ) → Some p ≡ place_of objects n.share n.number → 8 * p + 8 ≤ length slots → 8 ≤ i → frame_of objects slots given ps ≡ put_listed n i v (frame_of objects slots given ps)
+  put_past p is fits far =
+      let o = object_some objects slots n p is in
+      kept_frame (o ∙ relist (list_at slots p) (list_at slots p) (λ l. set l i v) (get_or objects p None) (sym (set_past (list_at slots p) i v (omega (arith, list_long slots p fits)))) ∙ sym (ap (lifted (relisted (λ l. set l i v))) o))
+
+pub listed : (b : Option Body) → option_map_or (λ (b : Body). last_filled b.list) b 0 ≡ last_filled (list_of b)
+unfolding last_filled
+listed None = refl
+listed (Some b) = refl

@@ -1,124 +1,107 @@
 -- An object ends: its place is unused, and every other name is where it was.
-use Rattle.std.proofs.Common.{◌≡◌, ℕ, ◌+◌, ◌-◌, ◌*◌, ◌<◌, ◌≤◌, false, cond, eqb, List, length, get_or, set, Some, None, Option, sym, refl, ap, ◌∙◌, ⊎_elim, arith, get_or-set_other, get_or-set_same}
-use mathlib.Core.Path.{fun_ext}
-use Rattle.std.proofs.lemmas.Bool.{eq-eqb, ne_eqb, cases_Bool, cases_eq, cases_lt}
+use Rattle.std.proofs.Common.{◌≡◌, ℕ, ◌+◌, ◌-◌, ◌<◌, ◌≤◌, ◌≢◌, true, false, cond, eqb, List, length, get_or, set, Some, None, Option, All, AllPairs, position, count_by, is_some, option_map, sym, ap, ◌∙◌, ⊎_elim, arith, get_or-set_other, get_or-set_same}
+use Rattle.std.proofs.lemmas.Bool.{cases_eq, cases_lt, cases_Bool, both_ways}
+use Rattle.std.proofs.lemmas.Option.{none-some}
+use Rattle.std.proofs.lemmas.List.{length-set}
+use Rattle.std.proofs.lemmas.List.Elements.{All-set}
+use Rattle.std.proofs.lemmas.List.Sums.{sum_by-set}
 use Rattle.model.specs.declared.kinds.Name.{Name}
 use Rattle.model.specs.declared.kinds.Slot.{Slot}
-use Rattle.model.specs.Plan.{places}
 use Rattle.model.specs.Kalls.{same_name, on_object, on_living, unmade}
-use Rattle.scene.specs.declared.kinds.Row.{Row}
+use Rattle.scene.specs.declared.kinds.Object.{Object}
 use Rattle.scene.specs.declared.kinds.Process.{Process}
-use Rattle.scene.specs.Places.{row_at, place_of, base_of, free_row}
-use Rattle.scene.specs.Sound.{Bounded, Distinct}
-use Rattle.scene.specs.Abstract.{frame_of, process_of, object_of, living_of, body_from, lot, on_shelf, home_of, unhomed}
-use Rattle.scene.proofs.Making.{count_more}
-use Rattle.scene.proofs.Bodies.{Found, seek_nowhere, place_found, place_like, living_like, shares, both, not_both, one_place}
+use Rattle.scene.specs.Places.{part_of, placed, is_numbered, place_of}
+use Rattle.scene.specs.Sound.{GivenOut, Bounded, Differ, Distinct}
+use Rattle.scene.specs.Abstract.{frame_of, process_of, object_of, living_of, home_of, unhomed}
+use Rattle.scene.proofs.Position.{position_none, all_pairs_set}
+use Rattle.scene.proofs.Places.{named, part_long, part_get, part_set, part_other, each_part, place_kept, same_number, not_both}
+use Rattle.scene.proofs.Changed.{at_name, at_number, name_other}
+use Rattle.scene.proofs.Bodies.{At, at, one_place, object_none, object_kept}
 
-module _ (rows : List Row) (slots : List Slot) (given : List ℕ) (n : Name) (p : ℕ) (free : Row) (is_free : free.number ≡ 0) (at : Some p ≡ place_of rows n.share n.number) (distinct : Distinct rows) (long : length rows ≡ 160) (small : p < 160) where
-  rows' : List Row
-  rows' = set rows p free
+module _ (objects : List (Option Object)) (n : Name) (p : ℕ) (long : length objects ≡ 160) (found : Some p ≡ place_of objects n.share n.number) (distinct : Distinct objects) where
+  here : At objects n p
+  here = at objects n p long found
 
-  found : Found rows n.number (places n.share) (base_of n.share) p
-  found = (place_found rows n.share n.number p (sym at)).0
+  abbrev objects' : List (Option Object)
+  objects' = set objects p None
 
-  named : n.number ≡ 0 → ⊥
-  named = (place_found rows n.share n.number p (sym at)).1
+  few : here.index < length (part_of objects n.share)
+  few = omega (arith, part_long objects n.share long, here.within)
 
-  freed : (row_at rows' p).number ≡ 0
-  unfolding rows'
-  freed = ap (λ (r : Row). r.number) (get_or-set_same rows p free free_row (omega arith)) ∙ is_free
-
-  kept_row : (j : ℕ) → (j ≡ p → ⊥) → row_at rows' j ≡ row_at rows j
-  unfolding rows'
-  kept_row j ne = get_or-set_other rows p j free free_row ne
-
-  kept : (j : ℕ) → (j ≡ p → ⊥) → (row_at rows' j).number ≡ (row_at rows j).number
-  kept j ne = ap (λ (r : Row). r.number) (kept_row j ne)
+  numbered : is_numbered n.number (get_or (part_of objects n.share) here.index None) ≡ true
+  numbered = ap (is_numbered n.number) (part_get objects n.share here.index here.within ∙ ap (λ (x : ℕ). get_or objects x None) (sym here.is)) ∙ here.numbered
 
   -- no other place of the share has the number
-  twin : (j : ℕ) → base_of n.share ≤ j → j < base_of n.share + places n.share → (j ≡ p → ⊥) → (row_at rows j).number ≡ n.number → ⊥
-  twin j a b q same =
+  alone : (j : ℕ) → j < length (part_of objects n.share) → j ≢ here.index → is_numbered n.number (get_or (part_of objects n.share) j None) ≡ false
+  alone j l ne =
       ⊎_elim
-      (λ (l : j < p). named (omega (arith, same, distinct n.share j p (record { low = a; less = l; high = found.high; same = same ∙ sym found.number }))))
-      (λ (l : p ≤ j). named (omega (arith, found.number, distinct n.share p j (record { low = found.low; less = omega arith; high = b; same = found.number ∙ sym same }))))
-      (cases_lt j p)
-
-  alone : (j : ℕ) → base_of n.share ≤ j → j < base_of n.share + places n.share → (row_at rows' j).number ≡ n.number → ⊥
-  alone j a b e =
+      (λ (a : j < here.index).
       ⊎_elim
-      (λ (q : j ≡ p). named (sym e ∙ ap (λ (x : ℕ). (row_at rows' x).number) q ∙ freed))
-      (λ (q : j ≡ p → ⊥). twin j a b q (sym (kept j q) ∙ e))
-      (cases_eq j p)
+      (λ t. absurd (both_ways (is_numbered n.number (get_or (part_of objects n.share) here.index None)) (not_both n.number (get_or (part_of objects n.share) j None) (get_or (part_of objects n.share) here.index None) (distinct n.share j here.index None a few) t) numbered))
+      (λ t. t)
+      (cases_Bool (is_numbered n.number (get_or (part_of objects n.share) j None))))
+      (λ (a : here.index ≤ j). not_both n.number (get_or (part_of objects n.share) here.index None) (get_or (part_of objects n.share) j None) (distinct n.share here.index j None (omega arith) l) numbered)
+      (cases_lt j here.index)
 
-  place_gone : place_of rows' n.share n.number ≡ None
-  place_gone = rw (ne_eqb n.number 0 named) (seek_nowhere rows' n.number (places n.share) (base_of n.share) alone)
+  place_gone : None ≡ place_of objects' n.share n.number
+  place_gone =
+      let none : (j : ℕ) → j < length (set (part_of objects n.share) here.index None) → is_numbered n.number (get_or (set (part_of objects n.share) here.index None) j None) ≡ false =
+      λ j l.
+      ⊎_elim
+      (λ (e : j ≡ here.index). rw e (rw (get_or-set_same (part_of objects n.share) here.index None None few)))
+      (λ (e : j ≡ here.index → ⊥). rw (get_or-set_other (part_of objects n.share) here.index j None None e) (alone j (omega (arith, l, length-set (part_of objects n.share) here.index None)) e))
+      (cases_eq j here.index) in
+      ap (placed n.share) (sym (ap (position (is_numbered n.number)) (part_set objects n.share here.index p None here.is here.within)
+      ∙ position_none (is_numbered n.number) (set (part_of objects n.share) here.index None) None none))
 
   -- every other name is where it was
-  place_old : (m : Name) → same_name m n ≡ false → place_of rows' m.share m.number ≡ place_of rows m.share m.number
+  place_old : (m : Name) → same_name m n ≡ false → place_of objects' m.share m.number ≡ place_of objects m.share m.number
   place_old m t =
-      place_like rows rows' m.share m.number p kept
-      (λ a b z. (λ y. z (sym y ∙ freed), λ y. not_both m n t (shares m.share n.share p a b found.low found.high) (sym y ∙ found.number)))
-
-  body_old : (m : Name) (o : Option ℕ) → same_name m n ≡ false → place_of rows m.share m.number ≡ o → body_from rows' slots o ≡ body_from rows slots o
-  body_old m None t e = refl
-  body_old m (Some q) t e =
-      ap (λ (r : Row). Some (record { kind = r.kind; list = lot slots (8 * q) 8 })) (kept_row q (λ same. one_place rows m n q p e (sym at) same t))
-
-  end_object : (m : Name) → object_of rows' slots m ≡ cond (same_name m n) None (object_of rows slots m)
-  unfolding object_of
-  end_object m =
+      place_kept objects n.share here.index p None here.is here.within m.share m.number
+      (λ e.
       ⊎_elim
-      (λ t. let b = both m n t in
-      let e : place_of rows' m.share m.number ≡ None = rw (b.0, b.1) place_gone in
-      rw t (ap (body_from rows' slots) e))
-      (λ t. rw t (ap (body_from rows' slots) (place_old m t) ∙ body_old m (place_of rows m.share m.number) t refl))
-      (cases_Bool (same_name m n))
+      (λ u. absurd (name_other m n t e (same_number m.number n.number (get_or objects p None) u here.numbered)))
+      (λ u. sym u)
+      (cases_Bool (is_numbered m.number (get_or objects p None))))
 
-  pub end_homes : home_of (set rows p free) ≡ unhomed n (home_of rows)
-  unfolding home_of unhomed rows'
-  end_homes = fun_ext (λ m.
-      ⊎_elim
-      (λ t. let b = both m n t in
-      let e : place_of rows' m.share m.number ≡ None = rw (b.0, b.1) place_gone in rw t (ap on_shelf e))
-      (λ t. rw t (ap on_shelf (place_old m t)))
-      (cases_Bool (same_name m n)))
+  pub end_homes : home_of objects' ≡ unhomed n (home_of objects)
+  unfolding home_of unhomed
+  end_homes =
+      at_name (λ _. None) n (home_of objects) (home_of objects')
+      (ap (option_map (λ x. x + 1)) (sym place_gone))
+      (λ m t. ap (option_map (λ x. x + 1)) (place_old m t))
 
-  end_living : (s : ℕ) → living_of rows' s ≡ cond (eqb s n.share) (living_of rows s - 1) (living_of rows s)
+  end_object : (slots : List Slot) → object_of objects' slots ≡ (λ m. cond (same_name m n) None (object_of objects slots m))
+  end_object slots =
+      at_name (λ _. None) n (object_of objects slots) (object_of objects' slots)
+      (object_none objects' slots n place_gone)
+      (λ m t. object_kept objects objects' slots slots m (place_old m t)
+      (λ q e. let ne : q ≢ p = one_place objects m n p q (at objects m q long e) here t in
+      rw (get_or-set_other objects p q None None ne)))
+
+  end_living : living_of objects' ≡ (λ t. cond (eqb t n.share) (living_of objects t - 1) (living_of objects t))
   unfolding living_of
-  end_living s =
-      ⊎_elim
-      (λ (t : s ≡ n.share). rw (eq-eqb s n.share t, t) (let e = count_more rows' rows p (places n.share) (base_of n.share) freed (λ y. named (sym found.number ∙ y)) (λ j q. sym (kept j q)) found.low found.high in omega arith))
-      (λ (t : s ≡ n.share → ⊥). rw (ne_eqb s n.share t) (living_like rows rows' n.share s p kept found.low found.high t))
-      (cases_eq s n.share)
+  end_living =
+      at_number (λ (k : ℕ). k - 1) n.share (living_of objects) (living_of objects')
+      (let a = named n.number (get_or (part_of objects n.share) here.index None) numbered in
+      rw (part_set objects n.share here.index p None here.is here.within)
+      (omega (arith, rw a.is at (sum_by-set (λ (x : Option Object). cond (is_some x) 1 0) (part_of objects n.share) here.index None None few))))
+      (λ t ne. ap (count_by is_some) (part_other objects n.share here.index p None here.is here.within t ne))
 
-  fewer : (j : ℕ) → (row_at rows' j).number ≤ (row_at rows j).number
-  fewer j =
-      ⊎_elim
-      (λ (q : j ≡ p). omega (arith, freed, ap (λ (x : ℕ). (row_at rows' x).number) q))
-      (λ (q : j ≡ p → ⊥). omega (arith, kept j q))
-      (cases_eq j p)
+  pub end_bounded : (given : List ℕ) → Bounded objects given → Bounded objects' given
+  end_bounded given old =
+      each_part objects n.share here.index p None here.is here.within (λ t xs. All (GivenOut (get_or given t 0)) xs)
+      (All-set (GivenOut (get_or given n.share 0)) (part_of objects n.share) here.index None (λ o e. absurd (none-some o e)) (old n.share))
+      (λ t ne. old t)
 
-  pub end_bounded : Bounded rows given → Bounded (set rows p free) given
-  unfolding rows'
-  end_bounded old s i a b = omega (arith, fewer i, old s i a b)
+  pub end_distinct : Distinct objects'
+  end_distinct =
+      each_part objects n.share here.index p None here.is here.within (λ t xs. AllPairs Differ xs)
+      (all_pairs_set Differ (part_of objects n.share) here.index None (distinct n.share)
+      (λ j d a b o e q h. absurd (none-some q h))
+      (λ j d a b o e. absurd (none-some o e)))
+      (λ t ne. distinct t)
 
-  pub end_distinct : Distinct (set rows p free)
-  unfolding rows'
-  end_distinct s i j t =
-      ⊎_elim
-      (λ (q : i ≡ p). omega (arith, freed, ap (λ (x : ℕ). (row_at rows' x).number) q))
-      (λ (q : i ≡ p → ⊥).
-      ⊎_elim
-      (λ (r : j ≡ p). omega (arith, t.same, freed, ap (λ (x : ℕ). (row_at rows' x).number) r))
-      (λ (r : j ≡ p → ⊥). omega (arith, kept i q, distinct s i j (record { low = t.low; less = t.less; high = t.high; same = sym (kept i q) ∙ t.same ∙ kept j r })))
-      (cases_eq j p))
-      (cases_eq i p)
-
-  pub end_frame : (ps : List Process) → frame_of (set rows p free) slots given ps ≡ unmade n (frame_of rows slots given ps)
-  unfolding rows' on_object on_living
-  end_frame ps = λ j. record {
-    object = fun_ext {f = object_of rows' slots} {g = λ m. cond (same_name m n) None (object_of rows slots m)} end_object j;
-    living = fun_ext {f = living_of rows'} {g = λ s. cond (eqb s n.share) (living_of rows s - 1) (living_of rows s)} end_living j;
-    given = λ s. get_or given s 0;
-    process = process_of ps;
-  }
+  pub end_frame : (slots : List Slot) (given : List ℕ) (ps : List (Option Process)) → frame_of objects' slots given ps ≡ unmade n (frame_of objects slots given ps)
+  unfolding on_object on_living
+  end_frame slots given ps = λ j. record { object = end_object slots j; living = end_living j; given = λ s. get_or given s 0; process = process_of ps }

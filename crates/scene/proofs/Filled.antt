@@ -1,32 +1,32 @@
--- The last filled slot, found from the front.
-use Rattle.std.proofs.Common.{◌≡◌, ℕ, suc, ◌+◌, ◌<◌, List, [], ◌∷◌, ◌++◌, length, get_or, take, refl, ap, ◌∙◌, add-one, arith}
-use Rattle.std.proofs.lemmas.List.{take_more, length-take-le}
+-- The last filled slot.
+use Rattle.std.proofs.Common.{◌≡◌, ℕ, zero, suc, ◌+◌, ◌<◌, List, [], ◌∷◌, length, get_or, Some, None, Option, refl, ap, ◌∙◌, arith}
+use Rattle.std.specs.Option.{option_map_or}
 use Rattle.model.specs.declared.kinds.Slot.{Slot}
 use Rattle.model.specs.declared.kinds.Slot.TheVariants.{Empty, Capability, Template}
 use Rattle.model.specs.Plan.{last_filled, longer}
+use Rattle.scene.specs.Abstract.{IsLastFilled}
 
-with_empty : (l : List Slot) → last_filled (l ++ Empty ∷ []) ≡ last_filled l
+none_filled : (xs : List Slot) → ((k : ℕ) → k < length xs → get_or xs k Empty ≡ Empty) → last_filled xs ≡ 0
 unfolding last_filled
-with_empty [] = refl
-with_empty (s ∷ l) = ap (longer s) (with_empty l)
+none_filled [] h = refl
+none_filled (s ∷ xs) h = let e : s ≡ Empty = h 0 (omega arith) in rw (e, none_filled xs (λ k l. h (suc k) (omega arith)))
+
+one_filled : (s : Slot) → (s ≡ Empty → ⊥) → longer s 0 ≡ 1
+one_filled Empty h = absurd (h refl)
+one_filled (Capability c) h = refl
+one_filled (Template t) h = refl
 
 longer_suc : (s : Slot) (n : ℕ) → longer s (suc n) ≡ suc (suc n)
 longer_suc Empty n = refl
 longer_suc (Capability c) n = refl
 longer_suc (Template t) n = refl
 
-with_filled : (l : List Slot) (s : Slot) → (s ≡ Empty → ⊥) → last_filled (l ++ s ∷ []) ≡ suc (length l)
+last_at : (xs : List Slot) (i : ℕ) → i < length xs → (get_or xs i Empty ≡ Empty → ⊥) → ((k : ℕ) → i < k → k < length xs → get_or xs k Empty ≡ Empty) → last_filled xs ≡ suc i
 unfolding last_filled
-with_filled [] Empty h = absurd (h refl)
-with_filled [] (Capability c) h = refl
-with_filled [] (Template t) h = refl
-with_filled (r ∷ l) s h = ap (longer r) (with_filled l s h) ∙ longer_suc r (length l)
+last_at [] i l h after = absurd (omega arith)
+last_at (s ∷ xs) zero l h after = rw (none_filled xs (λ k m. after (suc k) (omega arith) (omega arith))) (one_filled s h)
+last_at (s ∷ xs) (suc i) l h after = ap (longer s) (last_at xs i (omega arith) h (λ k a b. after (suc k) (omega arith) (omega arith))) ∙ longer_suc s i
 
--- one more slot of a list
-pub past_empty : (xs : List Slot) (i : ℕ) → i < length xs → get_or xs i Empty ≡ Empty → last_filled (take (i + 1) xs) ≡ last_filled (take i xs)
-past_empty xs i h e = rw (take_more xs i Empty h, e) (with_empty (take i xs))
-
-pub past_filled : (xs : List Slot) (i : ℕ) → i < length xs → (get_or xs i Empty ≡ Empty → ⊥) → last_filled (take (i + 1) xs) ≡ i + 1
-past_filled xs i h e =
-    ap last_filled (take_more xs i Empty h) ∙ with_filled (take i xs) (get_or xs i Empty) e
-    ∙ (let l : length (take i xs) ≡ i = length-take-le i xs (omega arith) in rw (l, add-one))
+pub last_is : (xs : List Slot) (r : Option ℕ) → IsLastFilled xs r → last_filled xs ≡ option_map_or (λ i. i + 1) r 0
+last_is xs None h = none_filled xs (λ k l. h k Empty l)
+last_is xs (Some i) h = last_at xs i h.0 (h.1 Empty) (λ k a b. h.2 k Empty (omega arith) b) ∙ omega arith

@@ -1,11 +1,11 @@
 -- A place filled: cleared, and then element by element.
 use Rattle.std.proofs.Common.{◌≡◌, ℕ, ◌+◌, ◌<◌, ◌≤◌, true, eqb, ltb, List, [], ◌∷◌, ◌++◌, length, get_or, take, IsErrAnd, Ok, Err, Result, sym, refl, ap, ◌∙◌, subst, ⊎_elim, arith}
 use mathlib.Core.Path.{fun_ext}
-use Rattle.std.proofs.lemmas.Bool.{eq-eqb, cases_Bool, le-leb, lt-leb, lt-ltb}
+use Rattle.std.proofs.lemmas.Bool.{eq-eqb, cases_Bool, le-leb, lt-ltb}
 use Rattle.std.proofs.lemmas.List.{take_all, take_more, length-take-le}
 use Rattle.model.specs.declared.signals.Fault.{Fault}
 use Rattle.std.proofs.lemmas.Result.{err_from_is_err_and}
-use Rattle.shelf.specs.Places.{is_place, refusal, with_place, cleared, appended, Writes}
+use Rattle.shelf.specs.Places.{is_place, with_place, cleared, appended, Writes}
 use Rattle.scene.specs.Fill.{filled}
 
 pub not_ok : {A : Type 0} {x : A} {e : Fault} → ◌≡◌ {A = Result A Fault} (Err e) (Ok x) → ⊥
@@ -19,9 +19,6 @@ module _ {E : Type 0} (p : ℕ) (h : ℕ → List E) where
   again : (xs ys : List E) → with_place p xs (with_place p ys h) ≡ with_place p xs h
   unfolding with_place
   again xs ys = fun_ext (λ q. ⊎_elim (λ t. rw t) (λ t. rw t) (cases_Bool (eqb q p)))
-
-  pub too_long : (xs : List E) → 64 < length xs → Err refusal ≡ filled p xs h
-  too_long xs l = rw (lt-leb (length xs) 64 l) (⊎_elim (λ t. rw t) (λ t. rw t) (cases_Bool (is_place p)))
 
   pub no_place : (xs : List E) (e : Fault) → Err e ≡ cleared p h → Err e ≡ filled p xs h
   unfolding cleared

@@ -1,5 +1,5 @@
 -- Set-up keeps to the house.
-use Rattle.std.proofs.Common.{◌≡◌, ℕ, Bool, true, false, cond, leb, List, length, Ok, Err, Result, sym, ap, subst, arith}
+use Rattle.std.proofs.Common.{◌≡◌, ℕ, Bool, true, false, cond, leb, List, length, Ok, Err, Result, sym, ap, subst}
 use Rattle.model.specs.declared.signals.Fault.{Fault}
 use Rattle.model.specs.declared.signals.Signal.TheVariants.{Slim}
 use Rattle.model.specs.Signals.{fault}
@@ -7,6 +7,7 @@ use Rattle.model.specs.Model.{Frame, World}
 use Rattle.model.specs.Plan.{after, new_number}
 use Rattle.model.specs.Kalls.{on_process, made, make, apply}
 use Rattle.model.specs.SetUp.{HouseObjects, HouseHeld, HouseListed, Change, Sets, SetsAll, creating, enrol, unenrolled, newcomer}
+use Rattle.scene.proofs.Filling.{not_ok}
 use Rattle.model.proofs.Opened.{Opened, opened_enrolled, opened_made}
 
 abbrev pub Housed : Frame → Type 0
@@ -20,7 +21,7 @@ enrol_housed (Err e) f f' h h' o s = housed f f' s.1 o
 enrol_housed (Ok v) f f' h h' o s = go (unenrolled f.process 8 1) s.0
   where
     go : (u : Result ℕ Fault) → ◌≡◌ {A = Result (Change Frame) Fault} (Ok (record { value = v; after = f' })) (after u (λ p. Ok (record { value = p; after = on_process p (λ _. newcomer) f }))) → Housed f'
-    go (Err e) q = let z : ◌≡◌ {A = ℕ} 0 1 = cc in absurd (omega arith)
+    go (Err e) q = absurd (not_ok (sym q))
     go (Ok p) q =
         let r : ◌≡◌ {A = Change Frame} (record { value = v; after = f' }) (record { value = p; after = on_process p (λ _. newcomer) f }) = cc in
         let e : f' ≡ on_process p (λ _. newcomer) f = ap (λ (x : Change Frame). x.after) r in
@@ -34,8 +35,8 @@ create_housed {E} (Ok v) kind xs w w' o s = go (leb (length xs) 64) (new_number 
     go : (b : Bool) (u : Result ℕ Fault)
         → ◌≡◌ {A = Result (Change (World E)) Fault} (Ok (record { value = v; after = w' })) (cond b (after u (λ n. Ok (record { value = n; after = apply 0 (make kind xs) w }))) (Err (fault Slim 0)))
         → Housed w'.frame
-    go false u q = let z : ◌≡◌ {A = ℕ} 0 1 = cc in absurd (omega arith)
-    go true (Err e) q = let z : ◌≡◌ {A = ℕ} 0 1 = cc in absurd (omega arith)
+    go false u q = absurd (not_ok (sym q))
+    go true (Err e) q = absurd (not_ok (sym q))
     go true (Ok n) q =
         let r : ◌≡◌ {A = Change (World E)} (record { value = v; after = w' }) (record { value = n; after = apply 0 (make kind xs) w }) = cc in
         housed (made 0 kind w.frame) w'.frame (ap (λ x. x.after.frame) r) (opened_made o kind)

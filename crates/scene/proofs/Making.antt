@@ -1,268 +1,204 @@
-use Rattle.std.proofs.Common.{◌≡◌, ℕ, zero, suc, ◌+◌, ◌-◌, ◌*◌, ◌<◌, ◌≤◌, Bool, true, false, cond, eqb, ◌≢◌, ◌⊎◌, List, ◌∷◌, length, get_or, set, replicate, Some, None, Option, sym, refl, ap, ◌∙◌, subst, ap₂, inl, inr, ⊎_elim, arith, get_or-set_other, get_or-set_same}
-use mathlib.Core.Path.{fun_ext}
-use Rattle.std.proofs.lemmas.List.{length-set}
-use Rattle.std.proofs.lemmas.Bool.{eq-eqb, ne_eqb, cases_Bool, cases_eq, cases_lt}
-use Rattle.std.proofs.lemmas.Bool.Decides.{nat_tests}
+-- A new object at an unused place.
+use Rattle.std.proofs.Common.{◌≡◌, ℕ, ◌+◌, ◌-◌, ◌*◌, ◌<◌, ◌≤◌, ◌≢◌, true, false, cond, eqb, List, [], ◌∷◌, length, get_or, set, take, drop, replicate, Some, None, Option, All, AllPairs, position, count_by, is_some, is_none, option_map, sym, refl, ap, ◌∙◌, subst, ap₂, ⊎_elim, arith, get_or-set_other, get_or-set_same}
+use Rattle.std.specs.List.{position_or_len}
+use Rattle.std.proofs.lemmas.Bool.{eq-eqb, ne_eqb, cases_lt, false≢true}
+use Rattle.std.proofs.lemmas.Option.{none-some}
+use Rattle.std.proofs.lemmas.List.{length-set, drop-take}
+use Rattle.std.proofs.lemmas.Slice.{between-put_mid, take-put_mid_below, drop-put_mid}
+use borrow.Rule.Slice.PartMut.{put_mid}
+use Rattle.std.proofs.lemmas.List.Elements.{All-set}
+use Rattle.std.proofs.lemmas.List.Sums.{sum_by-cons, sum_by-set, count_by-le-length}
 use Rattle.model.specs.declared.kinds.Slot.{Slot}
 use Rattle.model.specs.declared.kinds.Slot.TheVariants.{Empty}
 use Rattle.model.specs.declared.kinds.Name.{Name}
+use Rattle.model.specs.Model.{Body}
 use Rattle.model.specs.Kalls.{same_name, on_object, on_living, on_given, fresh, made}
-use Rattle.scene.specs.declared.kinds.Row.{Row}
+use Rattle.scene.specs.declared.kinds.Object.{Object}
 use Rattle.scene.specs.declared.kinds.Process.{Process}
 use Rattle.model.specs.Plan.{places}
-use Rattle.scene.specs.Places.{seek, row_at, place_of, base_of, free_row}
-use Rattle.scene.specs.Sound.{Bounded, Distinct}
-use Rattle.scene.specs.Abstract.{frame_of, process_of, object_of, living_of, count, body_from, lot, wiped, on_shelf, home_of, homed}
-use Rattle.scene.proofs.Bodies.{Found, seek_found, count_like, place_found, place_like, living_like, shares, both, not_both, lot_other}
+use Rattle.scene.specs.Places.{base_of, part_of, placed, is_numbered, place_of}
+use Rattle.scene.specs.Sound.{GivenOut, Bounded, Differ, Distinct}
+use Rattle.scene.specs.Abstract.{frame_of, process_of, object_of, living_of, list_at, home_of, homed}
+use Rattle.scene.proofs.Position.{position_past, position_at, all_pairs_set}
+use Rattle.scene.proofs.Places.{small, part_long, part_get, part_set, part_other, each_part, place_kept, not_above, found}
+use Rattle.scene.proofs.Changed.{at_name, at_number, name_other}
+use Rattle.scene.proofs.Bodies.{at, object_some, object_kept}
 
--- slots of a lot that is wiped
-below_wiped : (xs : List Slot) (c k b : ℕ) → b < c → get_or (wiped xs c k) b Empty ≡ get_or xs b Empty
-unfolding wiped
-below_wiped xs c zero b h = refl
-below_wiped xs c (suc k) b h =
-    let ne : b ≢ c = λ e. omega arith in
-    below_wiped (set xs c Empty) (suc c) k b (omega arith) ∙ get_or-set_other xs c b Empty Empty ne
+-- the slots of a list that is wiped, and of the others
+module _ (slots : List Slot) (p k : ℕ) (eight : k ≡ 8) (fits : 8 * p + 8 ≤ length slots) where
+  abbrev wiped : List Slot
+  wiped = put_mid (8 * p) k slots (replicate 8 Empty)
 
-lot_wiped : (xs : List Slot) (b k : ℕ) → b + k ≤ length xs → lot (wiped xs b k) b k ≡ replicate k Empty
-unfolding wiped lot
-lot_wiped xs b zero h = refl
-lot_wiped xs b (suc k) h =
-    let n = length-set xs b Empty in
-    ap₂ (λ (x : Slot) (l : List Slot). x ∷ l)
-    (below_wiped (set xs b Empty) (suc b) k b (omega arith) ∙ get_or-set_same xs b Empty Empty (omega arith))
-    (lot_wiped (set xs b Empty) (suc b) k (omega arith))
+  list_wiped : list_at wiped p ≡ replicate 8 Empty
+  unfolding list_at
+  list_wiped =
+      let e : (8 * p + 8) - 8 * p ≡ 8 = omega arith in
+      rw e at (between-put_mid (8 * p) k slots (replicate 8 Empty) (8 * p + 8) (omega arith) (sym e))
 
-lot_unwiped : (xs : List Slot) (c k b : ℕ) → (c + k ≤ b) ⊎ (b + 8 ≤ c) → lot (wiped xs c k) b 8 ≡ lot xs b 8
-unfolding wiped
-lot_unwiped xs c zero b h = refl
-lot_unwiped xs c (suc k) b h =
-    let more : (suc c + k ≤ b) ⊎ (b + 8 ≤ suc c) = ⊎_elim (λ l. inl (omega arith)) (λ l. inr (omega arith)) h in
-    let away : (c < b) ⊎ (b + 8 ≤ c) = ⊎_elim (λ l. inl (omega arith)) (λ l. inr (omega arith)) h in
-    lot_unwiped (set xs c Empty) (suc c) k b more ∙ lot_other xs c Empty b 8 away
+  list_unwiped : (q : ℕ) → (q ≡ p → ⊥) → list_at wiped q ≡ list_at slots q
+  unfolding list_at
+  list_unwiped q ne =
+      ⊎_elim
+      (λ (l : q < p).
+      sym (drop-take (8 * q) 8 wiped) ∙ ap (drop (8 * q)) (take-put_mid_below (8 * p) k slots (replicate 8 Empty) (8 * q + 8) (omega arith) (omega arith)) ∙ drop-take (8 * q) 8 slots)
+      (λ (l : p ≤ q). ap (take 8) (drop-put_mid (8 * p) k slots (replicate 8 Empty) (8 * q) (omega arith) (omega arith) (sym eight)))
+      (cases_lt q p)
 
-pub wiped_step : (xs : List Slot) (b i : ℕ) → i < 8 → wiped xs (b + i) (8 - i) ≡ wiped (set xs (b + i) Empty) (b + (i + 1)) (8 - (i + 1))
-unfolding wiped
-wiped_step xs b i h =
-    let e : 8 - i ≡ suc (8 - (i + 1)) = omega arith in
-    let d : b + (i + 1) ≡ suc (b + i) = omega arith in
-    rw (e, d) (one_more xs (b + i) (8 - (i + 1)))
+abbrev as_body : ℕ → List Slot → Body
+as_body k l = record { kind = k; list = l }
+
+some_left : (xs : List (Option Object)) (i : ℕ) → i < length xs → get_or xs i None ≡ None → count_by is_some xs < length xs
+some_left xs i l e =
+    let o : Option Object = Some (record { number = 0; kind = 0 }) in
+    let more = sum_by-set (λ (x : Option Object). cond (is_some x) 1 0) xs i o None l in
+    let few = count_by-le-length is_some (set xs i o) in
+    omega (arith, rw e at more, few, length-set xs i o)
+
+all_used : (xs : List (Option Object)) → length xs ≤ position_or_len is_none xs → length xs ≤ count_by is_some xs
+all_used [] h = omega arith
+all_used (None ∷ xs) h = absurd (omega arith)
+all_used (Some o ∷ xs) h = let more = all_used xs (omega arith) in omega (arith, more, sum_by-cons (λ (x : Option Object). cond (is_some x) 1 0) (Some o) xs)
+
+pub full : (objects : List (Option Object)) (s : ℕ) → length objects ≡ 160 → None ≡ placed s (position is_none (part_of objects s)) → places s ≤ living_of objects s
+unfolding living_of
+full objects s long e = go (position is_none (part_of objects s)) refl e
   where
-    one_more : (xs : List Slot) (b k : ℕ) → wiped xs b (suc k) ≡ wiped (set xs b Empty) (suc b) k
-    one_more xs b k = refl
+    go : (o : Option ℕ) → position is_none (part_of objects s) ≡ o → None ≡ placed s o → places s ≤ count_by is_some (part_of objects s)
+    go None q d = omega (arith, part_long objects s long, all_used (part_of objects s) (position_past is_none (part_of objects s) (sym q)))
+    go (Some i) q d = absurd (none-some (base_of s + i) d)
 
-pub wiped_end : (xs : List Slot) (b i : ℕ) → 8 ≤ i → wiped xs b (8 - i) ≡ xs
-unfolding wiped
-wiped_end xs b i h = let e : 8 - i ≡ 0 = omega arith in rw e
+free_is : (x : Option Object) → is_none x ≡ true → x ≡ None
+free_is None h = refl
+free_is (Some o) h = absurd (false≢true h)
 
-pub full : (rows : List Row) (k i : ℕ) → None ≡ seek rows 0 k i → k ≤ count rows k i
-unfolding seek count
-full rows zero i e = omega arith
-full rows (suc k) i e =
-    ⊎_elim
-    (λ t. let bad : None ≡ Some i = rw t at e in let z : ◌≡◌ {A = ℕ} 0 1 = cc in absurd (omega arith))
-    (λ t. let more = full rows k (suc i) (rw t at e) in rw t (omega arith))
-    (cases_Bool (eqb (row_at rows i).number 0))
+pub record Free (objects : List (Option Object)) (s p : ℕ) : Type 0 where
+  pub index : ℕ
+  pub is : p ≡ base_of s + index
+  pub within : index < places s
+  pub free : get_or objects p None ≡ None
 
-under : (rows : List Row) (k i : ℕ) → count rows k i ≤ k
-unfolding count
-under rows zero i = omega arith
-under rows (suc k) i =
-    let more = under rows k (suc i) in
-    ⊎_elim (λ t. rw t (omega arith)) (λ t. rw t (omega arith)) (cases_Bool (eqb (row_at rows i).number 0))
+pub free_at : (objects : List (Option Object)) (s p : ℕ) → length objects ≡ 160 → Some p ≡ placed s (position is_none (part_of objects s)) → Free objects s p
+free_at objects s p long e =
+    let f = found objects is_none s p long e in
+    record { index = f.index; is = f.is; within = f.within; free = free_is (get_or objects p None) f.passes }
 
-pub some_left : (rows : List Row) (k i p : ℕ) → Some p ≡ seek rows 0 k i → count rows k i < k
-unfolding seek count
-some_left rows zero i p e = let z : ◌≡◌ {A = ℕ} 0 1 = cc in absurd (omega arith)
-some_left rows (suc k) i p e =
-    ⊎_elim
-    (λ t. let more = under rows k (suc i) in rw t (omega arith))
-    (λ t. let more = some_left rows k (suc i) p (rw t at e) in rw t (omega arith))
-    (cases_Bool (eqb (row_at rows i).number 0))
+module _ (objects : List (Option Object)) (given : List ℕ) (s p : ℕ) (long : length objects ≡ 160) (f : Free objects s p) where
+  free_part : get_or (part_of objects s) f.index None ≡ None
+  free_part = part_get objects s f.index f.within ∙ ap (λ (x : ℕ). get_or objects x None) (sym f.is) ∙ f.free
 
-pub small_share : (s p : ℕ) → base_of s ≤ p → p < base_of s + places s → (s < 9) × (p < 160)
-small_share s p a b = (grind (arith, nat_tests), grind (arith, nat_tests))
-
-first_is : (rows : List Row) (n k i p : ℕ) → i ≤ p → p < i + k → (row_at rows p).number ≡ n → ((j : ℕ) → i ≤ j → j < p → (row_at rows j).number ≡ n → ⊥) → seek rows n k i ≡ Some p
-unfolding seek
-first_is rows n zero i p a b e h = absurd (omega arith)
-first_is rows n (suc k) i p a b e h =
-    ⊎_elim
-    (λ (q : i ≡ p). rw (eq-eqb (row_at rows i).number n (subst (λ (x : ℕ). (row_at rows x).number ≡ n) (sym q) e)) (ap Some q))
-    (λ (q : i ≡ p → ⊥). rw (ne_eqb (row_at rows i).number n (h i (omega arith) (omega arith))) (first_is rows n k (suc i) p (omega arith) (omega arith) e (λ j x y. h j (omega arith) y)))
-    (cases_eq i p)
-
-cond_suc : (b : Bool) (x y x' y' : ℕ) → x' ≡ suc x → y' ≡ suc y → cond b x' y' ≡ suc (cond b x y)
-cond_suc true x y x' y' e f = e
-cond_suc false x y x' y' e f = f
-
--- one more place is in use
-pub count_more : (rows rows' : List Row) (p k i : ℕ) → (row_at rows p).number ≡ 0 → ((row_at rows' p).number ≡ 0 → ⊥) → ((j : ℕ) → (j ≡ p → ⊥) → (row_at rows' j).number ≡ (row_at rows j).number) → i ≤ p → p < i + k → count rows' k i ≡ suc (count rows k i)
-unfolding count
-count_more rows rows' p zero i z nz h a b = absurd (omega arith)
-count_more rows rows' p (suc k) i z nz h a b =
-    ⊎_elim
-    (λ (q : i ≡ p).
-    let ne : eqb (row_at rows' i).number 0 ≡ false = ne_eqb (row_at rows' i).number 0 (subst (λ (x : ℕ). (row_at rows' x).number ≡ 0 → ⊥) (sym q) nz) in
-    let is : eqb (row_at rows i).number 0 ≡ true = eq-eqb (row_at rows i).number 0 (subst (λ (x : ℕ). (row_at rows x).number ≡ 0) (sym q) z) in
-    let same : count rows' k (suc i) ≡ count rows k (suc i) = count_like rows' rows k (suc i) (λ j x y. let w : j ≡ p → ⊥ = omega arith in ap (λ (m : ℕ). eqb m 0) (h j w)) in
-    rw (ne, is, same))
-    (λ (q : i ≡ p → ⊥).
-    let same : eqb (row_at rows' i).number 0 ≡ eqb (row_at rows i).number 0 = ap (λ (m : ℕ). eqb m 0) (h i q) in
-    let more : count rows' k (suc i) ≡ suc (count rows k (suc i)) = count_more rows rows' p k (suc i) z nz h (omega arith) (omega arith) in
-    rw same (cond_suc (eqb (row_at rows i).number 0) (count rows k (suc i)) (suc (count rows k (suc i))) (count rows' k (suc i)) (suc (count rows' k (suc i))) more (ap suc more)))
-    (cases_eq i p)
-
-module _ (rows : List Row) (slots : List Slot) (given : List ℕ) (s p k g : ℕ) (is_g : g ≡ get_or given s 0) (free : Some p ≡ seek rows 0 (places s) (base_of s)) (bounded : Bounded rows given) (long : length rows ≡ 160) (wide : length given ≡ 9) (big : length slots ≡ 1280) where
-  new_row : Row
-  new_row = record { number = g + 1; kind = k }
-
-  new_rows : List Row
-  new_rows = set rows p new_row
-
-  found : Found rows 0 (places s) (base_of s) p
-  found = seek_found rows 0 (places s) (base_of s) p (sym free)
-
-  pub share_small : s < 9
-  share_small = (small_share s p found.low found.high).0
-
-  at_new : row_at new_rows p ≡ new_row
-  unfolding new_rows
-  at_new = get_or-set_same rows p new_row free_row (omega (arith, (small_share s p found.low found.high).1))
-
-  at_other : (j : ℕ) → (j ≡ p → ⊥) → row_at new_rows j ≡ row_at rows j
-  unfolding new_rows
-  at_other j ne = get_or-set_other rows p j new_row free_row ne
-
-  number_new : (row_at new_rows p).number ≡ g + 1
-  unfolding new_row
-  number_new = ap (λ (r : Row). r.number) at_new
-
-  number_other : (j : ℕ) → (j ≡ p → ⊥) → (row_at new_rows j).number ≡ (row_at rows j).number
-  number_other j ne = ap (λ (r : Row). r.number) (at_other j ne)
-
-  below : (j : ℕ) → base_of s ≤ j → j < base_of s + places s → (row_at rows j).number ≤ g
-  below j a b = omega (arith, bounded s j a b)
-
-  -- the new name is at the place
-  place_new : place_of new_rows s (g + 1) ≡ Some p
-  place_new =
-      let ne : eqb (g + 1) 0 ≡ false = ne_eqb (g + 1) 0 (omega arith) in
-      rw ne (first_is new_rows (g + 1) (places s) (base_of s) p found.low found.high number_new
-      (λ j a b e. let w : j ≡ p → ⊥ = omega arith in
-      let u : (row_at rows j).number ≤ g = below j a (omega (arith, found.high)) in
-      let v : (row_at rows j).number ≡ g + 1 = sym (number_other j w) ∙ e in omega arith))
-
-  -- every other name is where it was
-  place_old : (s' n' : ℕ) → (s' ≡ s → n' ≡ g + 1 → ⊥) → place_of new_rows s' n' ≡ place_of rows s' n'
-  place_old s' n' h =
-      place_like rows new_rows s' n' p number_other
-      (λ a b z. (λ y. h (shares s' s p a b found.low found.high) (sym y ∙ number_new), λ y. z (sym y ∙ found.number)))
-
-  abbrev new_slots : List Slot
-  new_slots = wiped slots (8 * p) 8
-
-  small : p < 160
-  small = (small_share s p found.low found.high).1
-
-  pub unused : (m : Name) → Some (p + 1) ≡ home_of rows m → ⊥
-  unfolding home_of
-  unused m e = away (place_of rows m.share m.number) refl e
-    where
-      away : (o : Option ℕ) → place_of rows m.share m.number ≡ o → Some (p + 1) ≡ on_shelf o → ⊥
-      away None q d = let z : ◌≡◌ {A = ℕ} 0 1 = cc in omega arith
-      away (Some x) q d =
-          let f = place_found rows m.share m.number x q in
-          let y : p + 1 ≡ x + 1 = cc in
-          let same : x ≡ p = omega arith in
-          f.1 (sym f.0.number ∙ ap (λ (i : ℕ). (row_at rows i).number) same ∙ found.number)
-
-  body_old : (m : Name) (o : Option ℕ) → place_of rows m.share m.number ≡ o → body_from new_rows new_slots o ≡ body_from rows slots o
-  body_old m None e = refl
-  body_old m (Some q) e =
-      let f = place_found rows m.share m.number q e in
-      let ne : q ≡ p → ⊥ = λ same. f.1 (sym f.0.number ∙ ap (λ (x : ℕ). (row_at rows x).number) same ∙ found.number) in
-      let away : (8 * p + 8 ≤ 8 * q) ⊎ (8 * q + 8 ≤ 8 * p) = ⊎_elim (λ (l : p < q). inl (omega arith)) (λ (l : q ≤ p). inr (omega arith)) (cases_lt p q) in
-      ap₂ (λ (r : Row) (l : List Slot). Some (record { kind = r.kind; list = l })) (at_other q ne) (lot_unwiped slots (8 * p) 8 (8 * q) away)
-
-  new_object : (m : Name) → object_of new_rows new_slots m ≡ cond (same_name m (record { share = s; number = g + 1 })) (fresh k) (object_of rows slots m)
-  unfolding object_of new_row
-  new_object m =
-      ⊎_elim
-      (λ t. let b = both m (record { share = s; number = g + 1 }) t in
-      let e : place_of new_rows m.share m.number ≡ Some p = rw (b.0, b.1) place_new in
-      rw t (ap (body_from new_rows new_slots) e ∙ ap₂ (λ (r : Row) (l : List Slot). Some (record { kind = r.kind; list = l })) at_new (lot_wiped slots (8 * p) 8 (omega (arith, small)))))
-      (λ t. rw t (ap (body_from new_rows new_slots) (place_old m.share m.number (not_both m (record { share = s; number = g + 1 }) t)) ∙ body_old m (place_of rows m.share m.number) refl))
-      (cases_Bool (same_name m (record { share = s; number = g + 1 })))
-
-  pub new_homes : home_of (set rows p (record { number = g + 1; kind = k })) ≡ homed (record { share = s; number = g + 1 }) (p + 1) (home_of rows)
-  unfolding home_of homed new_row new_rows
-  new_homes = fun_ext (λ m.
-      ⊎_elim
-      (λ t. let b = both m (record { share = s; number = g + 1 }) t in
-      let e : place_of new_rows m.share m.number ≡ Some p = rw (b.0, b.1) place_new in rw t (ap on_shelf e))
-      (λ t. rw t (ap on_shelf (place_old m.share m.number (not_both m (record { share = s; number = g + 1 }) t))))
-      (cases_Bool (same_name m (record { share = s; number = g + 1 }))))
-
-  new_living : (s' : ℕ) → living_of new_rows s' ≡ cond (eqb s' s) (living_of rows s' + 1) (living_of rows s')
+  pub room_left : living_of objects s < places s
   unfolding living_of
-  new_living s' =
-      ⊎_elim
-      (λ (t : s' ≡ s). rw (eq-eqb s' s t, t) (let e = count_more rows new_rows p (places s) (base_of s) found.number (λ y. let q : g + 1 ≡ 0 = sym number_new ∙ y in omega arith) number_other found.low found.high in omega arith))
-      (λ (t : s' ≡ s → ⊥). rw (ne_eqb s' s t) (living_like rows new_rows s s' p number_other found.low found.high t))
-      (cases_eq s' s)
+  room_left =
+      let n = part_long objects s long in
+      rw n at (some_left (part_of objects s) f.index (omega (arith, n, f.within)) free_part)
 
-  new_given : (s' : ℕ) → get_or (set given s (g + 1)) s' 0 ≡ cond (eqb s' s) (get_or given s' 0 + 1) (get_or given s' 0)
-  new_given s' =
-      ⊎_elim
-      (λ (t : s' ≡ s). rw (eq-eqb s' s t, t, get_or-set_same given s (g + 1) 0 (omega (arith, share_small))) (ap (λ (x : ℕ). x + 1) is_g))
-      (λ (t : s' ≡ s → ⊥). rw (ne_eqb s' s t, get_or-set_other given s s' (g + 1) 0 t))
-      (cases_eq s' s)
+  module _ (k g : ℕ) (is_g : g ≡ get_or given s 0) (bounded : Bounded objects given) where
+    abbrev new : Option Object
+    new = Some (record { number = g + 1; kind = k })
 
-  in_share : (s' j : ℕ) → j ≡ p → base_of s' ≤ j → j < base_of s' + places s' → s' ≡ s
-  in_share s' j q a b = shares s' s p (subst (λ (x : ℕ). base_of s' ≤ x) q a) (subst (λ (x : ℕ). x < base_of s' + places s') q b) found.low found.high
+    abbrev name : Name
+    name = record { share = s; number = g + 1 }
 
-  given_grows : (s' : ℕ) → get_or given s' 0 ≤ get_or (set given s (g + 1)) s' 0
-  given_grows s' = rw (new_given s') (⊎_elim (λ t. rw t (omega arith)) (λ t. rw t (omega arith)) (cases_Bool (eqb s' s)))
+    abbrev objects' : List (Option Object)
+    objects' = set objects p new
 
-  pub new_bounded : Bounded (set rows p (record { number = g + 1; kind = k })) (set given s (g + 1))
-  unfolding new_row new_rows
-  new_bounded s' i a b =
-      ⊎_elim
-      (λ (q : i ≡ p).
-      let e : s' ≡ s = in_share s' i q a b in
-      let n : (row_at new_rows i).number ≡ g + 1 = ap (λ (x : ℕ). (row_at new_rows x).number) q ∙ number_new in
-      let m : get_or (set given s (g + 1)) s' 0 ≡ g + 1 = rw (e, get_or-set_same given s (g + 1) 0 (omega (arith, share_small))) in
-      omega arith)
-      (λ (q : i ≡ p → ⊥). omega (arith, number_other i q, bounded s' i a b, given_grows s'))
-      (cases_eq i p)
+    abbrev given' : List ℕ
+    given' = set given s (g + 1)
 
-  pub new_distinct : Distinct rows → Distinct (set rows p (record { number = g + 1; kind = k }))
-  unfolding new_row new_rows
-  new_distinct old s' i j t =
-      ⊎_elim
-      (λ (q : i ≡ p).
-      let e : s' ≡ s = in_share s' i q t.low (omega (arith, t.less, t.high)) in
-      let n : (row_at new_rows i).number ≡ g + 1 = ap (λ (x : ℕ). (row_at new_rows x).number) q ∙ number_new in
-      let m : (row_at rows j).number ≤ g = below j (subst (λ (x : ℕ). base_of x ≤ j) e (omega (arith, t.low, t.less))) (subst (λ (x : ℕ). j < base_of x + places x) e t.high) in
-      omega (arith, t.same, number_other j (omega (arith, t.less))))
-      (λ (q : i ≡ p → ⊥).
-      ⊎_elim
-      (λ (r : j ≡ p).
-      let e : s' ≡ s = in_share s' j r (omega (arith, t.low, t.less)) t.high in
-      let n : (row_at new_rows j).number ≡ g + 1 = ap (λ (x : ℕ). (row_at new_rows x).number) r ∙ number_new in
-      let m : (row_at rows i).number ≤ g = below i (subst (λ (x : ℕ). base_of x ≤ i) e t.low) (subst (λ (x : ℕ). i < base_of x + places x) e (omega (arith, t.less, t.high))) in
-      omega (arith, t.same, number_other i q))
-      (λ (r : j ≡ p → ⊥).
-      omega (arith, number_other i q, old s' i j (record { low = t.low; less = t.less; high = t.high; same = sym (number_other i q) ∙ t.same ∙ number_other j r })))
-      (cases_eq j p))
-      (cases_eq i p)
+    few : f.index < length (part_of objects s)
+    few = omega (arith, part_long objects s long, f.within)
 
-  pub new_frame : (ps : List Process) → frame_of (set rows p (record { number = g + 1; kind = k })) (wiped slots (8 * p) 8) (set given s (g + 1)) ps ≡ made s k (frame_of rows slots given ps)
-  unfolding new_row new_rows on_object on_living on_given
-  new_frame ps = λ j. record {
-    object = fun_ext {f = object_of new_rows new_slots} {g = λ m. cond (same_name m (record { share = s; number = get_or given s 0 + 1 })) (fresh k) (object_of rows slots m)}
-        (λ m. new_object m ∙ ap (λ (x : ℕ). cond (same_name m (record { share = s; number = x + 1 })) (fresh k) (object_of rows slots m)) is_g) j;
-    living = fun_ext {f = living_of new_rows} {g = λ t. cond (eqb t s) (living_of rows t + 1) (living_of rows t)} new_living j;
-    given = fun_ext {f = λ s'. get_or (set given s (g + 1)) s' 0} {g = λ t. cond (eqb t s) (get_or given t 0 + 1) (get_or given t 0)} new_given j;
-    process = process_of ps;
-  }
+    below : (j : ℕ) (d : Option Object) → j < length (part_of objects s) → GivenOut g (get_or (part_of objects s) j d)
+    below j d l = subst (λ (x : ℕ). GivenOut x (get_or (part_of objects s) j d)) (sym is_g) (bounded s j d l)
+
+    -- the new name is at the place
+    place_new : Some p ≡ place_of objects' s (g + 1)
+    place_new =
+        let here : is_numbered (g + 1) (get_or (set (part_of objects s) f.index new) f.index None) ≡ true = rw (get_or-set_same (part_of objects s) f.index new None few) (eq-eqb (g + 1) (g + 1) refl) in
+        let before : (j : ℕ) → j < f.index → is_numbered (g + 1) (get_or (set (part_of objects s) f.index new) j None) ≡ false =
+        λ j l. let ne : j ≢ f.index = omega arith in
+        rw (get_or-set_other (part_of objects s) f.index j new None ne) (not_above g (get_or (part_of objects s) j None) (below j None (omega (arith, few)))) in
+        ap Some f.is
+        ∙ ap (placed s) (sym (ap (position (is_numbered (g + 1))) (part_set objects s f.index p new f.is f.within)
+        ∙ position_at (is_numbered (g + 1)) (set (part_of objects s) f.index new) f.index None (omega (arith, few, length-set (part_of objects s) f.index new)) here before))
+
+    -- every other name is where it was
+    place_old : (m : Name) → same_name m name ≡ false → place_of objects' m.share m.number ≡ place_of objects m.share m.number
+    place_old m t =
+        place_kept objects s f.index p new f.is f.within m.share m.number
+        (λ e. rw f.free (ne_eqb (g + 1) m.number (λ n. name_other m name t e (sym n))))
+
+    away : (m : Name) (q : ℕ) → Some q ≡ place_of objects m.share m.number → q ≡ p → ⊥
+    away m q e same =
+        let a = at objects m q long e in
+        false≢true (ap (is_numbered m.number) (sym f.free ∙ ap (λ (x : ℕ). get_or objects x None) (sym same)) ∙ a.numbered)
+
+    pub unused : (m : Name) → Some (p + 1) ≡ home_of objects m → ⊥
+    unfolding home_of
+    unused m e = go (place_of objects m.share m.number) refl e
+      where
+        go : (o : Option ℕ) → place_of objects m.share m.number ≡ o → Some (p + 1) ≡ option_map (λ x. x + 1) o → ⊥
+        go None q d = none-some (p + 1) (sym d)
+        go (Some x) q d = let y : p + 1 ≡ x + 1 = cc in away m x (sym q) (omega arith)
+
+    pub new_homes : home_of objects' ≡ homed name (p + 1) (home_of objects)
+    unfolding home_of homed
+    new_homes =
+        at_name (λ _. Some (p + 1)) name (home_of objects) (home_of objects')
+        (ap (option_map (λ x. x + 1)) (sym place_new))
+        (λ m t. ap (option_map (λ x. x + 1)) (place_old m t))
+
+    new_living : living_of objects' ≡ (λ t. cond (eqb t s) (living_of objects t + 1) (living_of objects t))
+    unfolding living_of
+    new_living =
+        at_number (λ (n : ℕ). n + 1) s (living_of objects) (living_of objects')
+        (rw (part_set objects s f.index p new f.is f.within) (omega (arith, rw free_part at (sum_by-set (λ (x : Option Object). cond (is_some x) 1 0) (part_of objects s) f.index new None few))))
+        (λ t ne. ap (count_by is_some) (part_other objects s f.index p new f.is f.within t ne))
+
+    module _ (wide : length given ≡ 9) where
+      given_new : get_or given' s 0 ≡ g + 1
+      given_new = get_or-set_same given s (g + 1) 0 (omega (arith, wide, (small s f.index f.within).0))
+
+      new_given : ◌≡◌ {A = ℕ → ℕ} (λ t. get_or given' t 0) (λ t. cond (eqb t s) (get_or given t 0 + 1) (get_or given t 0))
+      new_given =
+          at_number (λ (n : ℕ). n + 1) s (λ t. get_or given t 0) (λ t. get_or given' t 0)
+          (given_new ∙ ap (λ (n : ℕ). n + 1) is_g)
+          (λ t ne. get_or-set_other given s t (g + 1) 0 ne)
+
+      pub new_bounded : Bounded objects' given'
+      new_bounded =
+          each_part objects s f.index p new f.is f.within (λ t xs. All (GivenOut (get_or given' t 0)) xs)
+          (All-set (GivenOut (get_or given' s 0)) (part_of objects s) f.index new (λ o e. let n : g + 1 ≡ o.number = cc in (omega (arith, n), omega (arith, given_new, n)))
+          (λ j d l o e. let b = below j d l o e in (b.0, omega (arith, given_new, b.1))))
+          (λ t ne. subst (λ (x : ℕ). All (GivenOut x) (part_of objects t)) (sym (get_or-set_other given s t (g + 1) 0 ne)) (bounded t))
+
+    pub new_distinct : Distinct objects → Distinct objects'
+    new_distinct old =
+        each_part objects s f.index p new f.is f.within (λ t xs. AllPairs Differ xs)
+        (all_pairs_set Differ (part_of objects s) f.index new (old s)
+        (λ j d a b o e q h. let x = (below j d b o e).1 in let n : g + 1 ≡ q.number = cc in omega arith)
+        (λ j d a b o e q h. let x = (below j d b q h).1 in let n : g + 1 ≡ o.number = cc in omega arith))
+        (λ t ne. old t)
+
+    module _ (slots : List Slot) (l : ℕ) (eight : l ≡ 8) (fits : 8 * p + 8 ≤ length slots) where
+      abbrev slots' : List Slot
+      slots' = put_mid (8 * p) l slots (replicate 8 Empty)
+
+      new_object : object_of objects' slots' ≡ (λ m. cond (same_name m name) (fresh k) (object_of objects slots m))
+      new_object =
+          at_name (λ _. fresh k) name (object_of objects slots) (object_of objects' slots')
+          (object_some objects' slots' name p place_new
+          ∙ ap₂ (λ (x : Option Object) (l : List Slot). option_map (λ (o : Object). as_body o.kind l) x)
+          (get_or-set_same objects p new None (omega (arith, long, f.is, (small s f.index f.within).1))) (list_wiped slots p l eight fits))
+          (λ m t. object_kept objects objects' slots slots' m (place_old m t)
+          (λ q e. ap₂ (λ (x : Option Object) (l : List Slot). option_map (λ (o : Object). as_body o.kind l) x)
+          (get_or-set_other objects p q new None (away m q e)) (list_unwiped slots p l eight fits q (away m q e))))
+
+      pub new_frame : length given ≡ 9 → (ps : List (Option Process)) → frame_of objects' slots' given' ps ≡ made s k (frame_of objects slots given ps)
+      unfolding on_object on_living on_given
+      new_frame wide ps = λ j. record {
+        object = (new_object ∙ ap {B = Name → Option Body} (λ (x : ℕ) (m : Name). cond (same_name m (record { share = s; number = x + 1 })) (fresh k) (object_of objects slots m)) is_g) j;
+        living = new_living j;
+        given = new_given wide j;
+        process = process_of ps;
+      }

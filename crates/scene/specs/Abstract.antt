@@ -1,8 +1,8 @@
-use Rattle.std.specs.Prelude.{◌≡◌, ℕ, zero, suc, ◌+◌, ◌-◌, ◌*◌, ◌≤◌, true, false, cond, ◌&&◌, List, [], ◌∷◌, Some, None, Ok, Err, Option, Result, ◌==◌, ◌≢◌, nat_le, slice_index, slice_index_or, slice_set}
-use Rattle.scene.specs.declared.kinds.State.{State}
-use Rattle.scene.specs.declared.kinds.State.TheVariants.{Absent, Running, Stopped}
-use Rattle.scene.specs.declared.kinds.Row.{Row}
-use Rattle.model.specs.declared.kinds.Space.{Space}
+-- The tables as the scene that they hold, and as where the elements lie.
+use Rattle.std.specs.Prelude.{◌≡◌, ℕ, ◌+◌, ◌*◌, ◌<◌, ◌≤◌, ◌≢◌, cond, List, [], ℤ, length, take, drop, All, HoldsAt, Some, None, Ok, Err, Option, Result, is_some, count_by, option_map, option_and_then, slice_index, slice_index_or}
+use Rattle.std.specs.Option.{MatchOption}
+use Rattle.std.specs.List.{AllWithin}
+use Rattle.scene.specs.declared.kinds.Object.{Object}
 use Rattle.scene.specs.declared.kinds.Process.{Process}
 use Rattle.scene.specs.declared.tables.Tables.{Tables}
 use Rattle.model.specs.declared.kinds.Slot.{Slot}
@@ -10,86 +10,46 @@ use Rattle.model.specs.declared.kinds.Slot.TheVariants.{Empty}
 use Rattle.model.specs.declared.kinds.Name.{Name}
 use Rattle.model.specs.declared.signals.Fault.{Fault}
 use Rattle.model.specs.Model.{Frame, Body, Task, World}
-use Rattle.model.specs.Plan.{new_number, places}
-use Rattle.model.specs.Kalls.{same_name, made, unmade}
-use Rattle.model.specs.SetUp.{living}
+use Rattle.model.specs.Plan.{Plan, new_number}
+use Rattle.model.specs.Kalls.{Plain, ended, same_name, made, unmade}
+use Rattle.model.specs.SetUp.{Change, Sets, living}
 use Rattle.scene.specs.declared.kinds.Spot.{Spot}
-use Rattle.scene.specs.Places.{place_of, row_at, base_of}
-use Rattle.scene.specs.Sound.{nobody, bare_space}
+use Rattle.scene.specs.Places.{part_of, place_of}
+use Rattle.scene.specs.Tasks.{task_of, index_of}
 
--- k slots from i on
-unfoldable pub lot : List Slot → ℕ → ℕ → List Slot
-lot xs i zero = []
-lot xs i (suc k) = slice_index_or xs i Empty ∷ lot xs (suc i) k
+-- the eight slots of the object at a place
+unfoldable pub list_at : List Slot → ℕ → List Slot
+list_at slots p = take 8 (drop (8 * p) slots)
 
--- and k slots from i on made empty
-unfoldable pub wiped : List Slot → ℕ → ℕ → List Slot
-wiped xs i zero = xs
-wiped xs i (suc k) = wiped (slice_set xs i Empty) (suc i) k
+-- the index of the last filled slot, if one is
+abbrev pub IsLastFilled : List Slot → Option ℕ → Type 0
+IsLastFilled slots r =
+    MatchOption r
+    (All (λ s. s ≡ Empty) slots)
+    (λ i. (i < length slots) × HoldsAt (λ s. s ≢ Empty) slots i × AllWithin (λ s. s ≡ Empty) slots (i + 1) (length slots))
 
-abbrev pub body_at : List Row → List Slot → ℕ → Body
-body_at rows slots p = record { kind = (row_at rows p).kind; list = lot slots (8 * p) 8 }
+abbrev pub body_at : List (Option Object) → List Slot → ℕ → Option Body
+body_at objects slots p = option_map (λ o. record { kind = o.kind; list = list_at slots p }) (slice_index_or objects p None)
 
-abbrev pub body_from : List Row → List Slot → Option ℕ → Option Body
-body_from rows slots None = None
-body_from rows slots (Some p) = Some (body_at rows slots p)
+unfoldable pub object_of : List (Option Object) → List Slot → Name → Option Body
+object_of objects slots n = option_and_then (body_at objects slots) (place_of objects n.share n.number)
 
-unfoldable pub object_of : List Row → List Slot → Name → Option Body
-object_of rows slots n = body_from rows slots (place_of rows n.share n.number)
+-- how many places of a share are in use
+unfoldable pub living_of : List (Option Object) → ℕ → ℕ
+living_of objects s = count_by is_some (part_of objects s)
 
--- how many of k places from i are in use
-unfoldable pub count : List Row → ℕ → ℕ → ℕ
-count rows zero i = 0
-count rows (suc k) i = cond ((row_at rows i).number == 0) (count rows k (suc i)) (suc (count rows k (suc i)))
+unfoldable pub process_of : List (Option Process) → ℕ → Option Task
+process_of ps p = option_and_then (λ i. option_map task_of (slice_index_or ps i None)) (index_of p)
 
-unfoldable pub living_of : List Row → ℕ → ℕ
-living_of rows s = count rows (places s) (base_of s)
-
--- the newest of the d oldest spaces first
-abbrev pub newest : List Space → ℕ → List Space
-newest xs zero = []
-newest xs (suc d) = slice_index_or xs d bare_space ∷ newest xs d
-
-abbrev pub task_in : State → Process → Option Task
-task_in Absent p = None
-task_in Running p = Some (record { running = true; spaces = newest p.spaces p.depth })
-task_in Stopped p = Some (record { running = false; spaces = newest p.spaces p.depth })
-
-abbrev pub task_of : Process → Option Task
-task_of p = task_in p.state p
-
--- processes go by 1 to 8
-unfoldable pub process_of : List Process → ℕ → Option Task
-process_of ps p = cond (nat_le 1 p && nat_le p 8) (task_of (slice_index_or ps (p - 1) nobody)) None
-
-abbrev pub depth_in : State → Process → ℕ
-depth_in Absent p = 0
-depth_in Running p = p.depth
-depth_in Stopped p = p.depth
-
-abbrev pub task_depth : Process → ℕ
-task_depth p = depth_in p.state p
-
-abbrev pub depth_of : List Process → ℕ → ℕ
-depth_of ps p = cond (nat_le 1 p && nat_le p 8) (task_depth (slice_index_or ps (p - 1) nobody)) 0
-
-abbrev pub frame_of : List Row → List Slot → List ℕ → List Process → Frame
-frame_of rows slots given ps = record { object = object_of rows slots; living = living_of rows; given = λ s. slice_index given s; process = process_of ps }
+abbrev pub frame_of : List (Option Object) → List Slot → List ℕ → List (Option Process) → Frame
+frame_of objects slots given ps = record { object = object_of objects slots; living = living_of objects; given = λ s. slice_index given s; process = process_of ps }
 
 abbrev pub frame : Tables → Frame
 frame t = frame_of t.objects t.slots t.given t.processes
 
 -- where on the shelf the elements of each name lie: no part of the scene, only what they are read by
-abbrev pub on_shelf : Option ℕ → Option ℕ
-on_shelf None = None
-on_shelf (Some p) = Some (p + 1)
-
-abbrev pub OnAShelf : Option ℕ → Type 0
-OnAShelf None = Unit {0}
-OnAShelf (Some p) = (1 ≤ p) × (p ≤ 160)
-
-unfoldable pub home_of : List Row → Name → Option ℕ
-home_of rows n = on_shelf (place_of rows n.share n.number)
+unfoldable pub home_of : List (Option Object) → Name → Option ℕ
+home_of objects n = option_map (λ p. p + 1) (place_of objects n.share n.number)
 
 abbrev pub homes : Tables → Name → Option ℕ
 homes t = home_of t.objects
@@ -119,6 +79,17 @@ unfoldable pub unhomed : Name → (Name → Option ℕ) → Name → Option ℕ
 unhomed n h = λ m. cond (same_name m n) None (h m)
 
 -- what ending an object answers and does
-abbrev pub Ends : Name → Tables → Tables → Result ℕ Fault → Type 0
+abbrev pub Ends : Name → Tables → Tables → Result (Unit {0}) Fault → Type 0
 Ends n t t' (Ok x) = (Ok x ≡ living n (frame t)) × (frame t' ≡ unmade n (frame t)) × (homes t' ≡ unhomed n (homes t))
 Ends n t t' (Err e) = (Err e ≡ living n (frame t)) × (frame t' ≡ frame t) × (homes t' ≡ homes t)
+
+-- what a step of set-up over the tables answers and does, by its plan
+abbrev pub Steps : Tables → Tables → Result ℕ Fault → Plan Frame (Change Frame) → Type 0
+Steps t t' r m = Sets r (frame t) (homes t) (frame t') (homes t') (m (frame t))
+
+-- what a kall of the process p answers and does, as the plan m says: over the scene with its elements, or without
+abbrev pub DoesAll : {E : Type 0} → ℕ → Plan (World E) (Plain E) → Tables → (ℕ → List E) → Tables → (ℕ → List E) → Result ℤ Fault → Type 0
+DoesAll p m t h t' h' r = record { answer = r; after = world t' h' } ≡ ended p (world t h) (m (world t h))
+
+abbrev pub Does : {E : Type 0} → ℕ → Plan Frame (Plain E) → Tables → (ℕ → List E) → Tables → (ℕ → List E) → Result ℤ Fault → Type 0
+Does p m = DoesAll p (λ w. m w.frame)

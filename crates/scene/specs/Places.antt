@@ -1,24 +1,22 @@
-use Rattle.std.specs.Prelude.{ℕ, zero, suc, ◌+◌, ◌*◌, ◌<◌, cond, List, Some, None, Option, ◌==◌, slice_index_or}
+-- Where objects lie.
+use Rattle.std.specs.Prelude.{ℕ, ◌+◌, ◌*◌, Bool, false, cond, List, None, Some, Option, take, drop, position, option_map, ◌==◌}
 use Rattle.model.specs.Plan.{places}
-use Rattle.scene.specs.declared.kinds.Row.{Row}
+use Rattle.scene.specs.declared.kinds.Object.{Object}
 
 abbrev pub base_of : ℕ → ℕ
 base_of s = cond (s == 0) 0 (16 + 16 * s)
 
-abbrev pub free_row : Row
-free_row = record { number = 0; kind = 0 }
+-- the places of a share
+unfoldable pub part_of : List (Option Object) → ℕ → List (Option Object)
+part_of objects s = take (places s) (drop (base_of s) objects)
 
-abbrev pub row_at : List Row → ℕ → Row
-row_at rows i = slice_index_or rows i free_row
+-- a place of the share, by its index among them
+abbrev pub placed : ℕ → Option ℕ → Option ℕ
+placed s i = option_map (λ i. base_of s + i) i
 
--- the first place from `i` on, among `k`, whose row has the number `n`
-unfoldable pub seek : List Row → ℕ → ℕ → ℕ → Option ℕ
-seek rows n zero i = None
-seek rows n (suc k) i = cond ((row_at rows i).number == n) (Some i) (seek rows n k (suc i))
+abbrev pub is_numbered : ℕ → Option Object → Bool
+is_numbered n None = false
+is_numbered n (Some o) = o.number == n
 
-abbrev pub place_of : List Row → ℕ → ℕ → Option ℕ
-place_of rows s n = cond (n == 0) None (seek rows n (places s) (base_of s))
-
-abbrev pub Within : Option ℕ → Type 0
-Within None = Unit {0}
-Within (Some p) = p < 160
+abbrev pub place_of : List (Option Object) → ℕ → ℕ → Option ℕ
+place_of objects s n = placed s (position (is_numbered n) (part_of objects s))

@@ -1,36 +1,19 @@
-use Rattle.std.specs.Prelude.{◌≡◌, ℕ, ◌+◌, ◌<◌, ◌≤◌, List, [], length, slice_index, slice_index_or}
-use Rattle.scene.specs.declared.kinds.Row.{Row}
-use Rattle.scene.specs.declared.kinds.State.TheVariants.{Absent}
-use Rattle.scene.specs.declared.kinds.Process.{Process}
-use Rattle.model.specs.declared.kinds.Space.{Space}
-use Rattle.model.specs.Plan.{places}
-use Rattle.scene.specs.Places.{base_of, row_at}
+-- What always holds of the tables.
+use Rattle.std.specs.Prelude.{ℕ, ◌≤◌, ◌≢◌, List, Option, All, AllPairs, slice_index}
+use Rattle.std.specs.Option.{ForSome}
+use Rattle.scene.specs.declared.kinds.Object.{Object}
+use Rattle.scene.specs.Places.{part_of}
 
-abbrev pub bare_space : Space
-bare_space = record { slots = []; back = 0 }
+-- each number is one of those that its share has given out, which begin with 1
+abbrev pub GivenOut : ℕ → Option Object → Type 0
+GivenOut g x = ForSome x (λ o. (1 ≤ o.number) × (o.number ≤ g))
 
-abbrev pub nobody : Process
-nobody = record { state = Absent; depth = 0; spaces = [] }
+abbrev pub Bounded : List (Option Object) → List ℕ → Type 0
+Bounded objects given = (s : ℕ) → All (GivenOut (slice_index given s)) (part_of objects s)
 
--- no number is above what its share has given out
-abbrev pub Bounded : List Row → List ℕ → Type 0
-Bounded rows given = (s i : ℕ) → base_of s ≤ i → i < base_of s + places s → (row_at rows i).number ≤ slice_index given s
+-- no two objects of a share have one number
+abbrev pub Differ : Option Object → Option Object → Type 0
+Differ x y = ForSome x (λ o. ForSome y (λ q. o.number ≢ q.number))
 
--- two places of a share have one number
-pub record Twins (rows : List Row) (s i j : ℕ) : Type 0 where
-  pub low : base_of s ≤ i
-  pub less : i < j
-  pub high : j < base_of s + places s
-  pub same : (row_at rows i).number ≡ (row_at rows j).number
-
--- such places are unused
-abbrev pub Distinct : List Row → Type 0
-Distinct rows = (s i j : ℕ) → Twins rows s i j → (row_at rows i).number ≤ 0
-
--- every process has 1 to 6 spaces
-abbrev pub Deep : List Process → Type 0
-Deep ps = (p : ℕ) → (slice_index_or ps p nobody).depth ≤ 6
-
--- its spaces lie in its row
-abbrev pub Shelved : List Process → Type 0
-Shelved ps = (p : ℕ) → (slice_index_or ps p nobody).depth ≤ length (slice_index_or ps p nobody).spaces
+abbrev pub Distinct : List (Option Object) → Type 0
+Distinct objects = (s : ℕ) → AllPairs Differ (part_of objects s)

@@ -1,4 +1,4 @@
-ghost use Rattle.std.specs.Prelude.{◌≡◌};
+ghost use Rattle.std.specs.Prelude.{◌≡◌, ◌≤◌, length};
 ghost use Rattle.shelf.specs.Places.{Writes};
 ghost use Rattle.model.specs.SetUp.{SetsAll, creating};
 ghost use Rattle.scene.specs.Abstract.{world};
@@ -10,11 +10,9 @@ use shelf::traits::WritableShelf;
 
 // The place holds the elements, and nothing that it held before.
 fn fill<S: WritableShelf>(shelf: &mut S, place: usize, elements: &[S::Element]) -> Result<(), Fault>
+    requires { length elements.now ≤ 64 }
     ensures { Writes result (S.ReadableShelf.holds shelf.old) (S.ReadableShelf.holds shelf.new) (filled place elements.now (S.ReadableShelf.holds shelf.old)) }
 {
-    if elements.len() > 64 {
-        return Err(Fault::new(Signal::Slim, 0));
-    }
     shelf.clear(place)?;
     for element in elements {
         shelf.append(place, *element)?;

@@ -1,26 +1,51 @@
-// The rows of the tables.
-use model::kinds::Space;
+// What the tables hold.
+ghost use Rattle.std.specs.Prelude.{◌≡◌, length, Some};
+ghost use Rattle.model.specs.SetUp.{newcomer};
+ghost use Rattle.scene.specs.Tasks.{task_of};
 
-// The object at a place: number 0 where the place is unused.
-#[derive(Clone, Copy)]
-pub struct Row {
+use arrayvec::ArrayVec;
+use model::kinds::{Slot, Space};
+
+// The object at a place.
+#[derive(Clone, Copy, Debug, PartialEq, Eq)]
+pub struct Object {
     pub number: u32,
     pub kind: u32,
 }
 
+// An object as it is read: its type, and the slots of its list.
 #[derive(Clone, Copy)]
+pub(crate) struct Body<'a> {
+    pub kind: u32,
+    pub list: &'a [Slot],
+    ghost eight: { length list.now ≡ 8 },
+}
+
+#[derive(Clone, Copy, Debug, PartialEq, Eq)]
 pub enum State {
-    Absent,
     Running,
     Stopped,
 }
 
 // A process, with its name spaces from the oldest on.
-#[derive(Clone, Copy)]
+#[derive(Drop)]
 pub struct Process {
     pub state: State,
-    pub depth: u8,
-    pub spaces: [Space; 6],
+    pub spaces: ArrayVec<Space, 6>,
+}
+
+impl Process {
+    // A process that runs, with one empty name space.
+    pub(crate) fn new() -> Process
+        ensures { Some (task_of result) ≡ newcomer }
+    {
+        let mut spaces = ArrayVec::new();
+        spaces.push(Space::default());
+        Process {
+            state: State::Running,
+            spaces,
+        }
+    }
 }
 
 // A new object: its place on the shelf, and its number.

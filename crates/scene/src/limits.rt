@@ -1,4 +1,5 @@
-// What an object's type allows it.
+// What an object's type allows it. A type is a number and no enum, since a request may
+// name any, and those from 16 to 255 are the user's.
 ghost use Rattle.std.specs.Prelude.{◌≡◌, ◌≤◌};
 ghost use Rattle.model.specs.Plan.{limits, room};
 
@@ -11,6 +12,7 @@ pub const UNIVERSAL: u32 = 2;
 
 pub const PROCEDURE: u32 = 3;
 
+#[tactic(auto, using(std::proofs::lemmas::Bool::Decides::nat_tests), unfolding(model::specs::Plan::limits))]
 pub fn limits(kind: u32) -> Result<Limits, Fault>
     ensures { result ≡ limits kind }
 {
@@ -36,8 +38,5 @@ pub(crate) fn room(kind: u32) -> usize
     ensures value { result ≡ room kind }
     ensures bound { result ≤ 8 }
 {
-    match limits(kind) {
-        Ok(limits) => limits.slots,
-        Err(_) => 0,
-    }
+    limits(kind).map_or(0, |limits| limits.slots)
 }

@@ -1,17 +1,19 @@
 // The object layer: what is read from the tables and written to them, by name.
-ghost use Rattle.std.specs.Prelude.{◌≡◌, ◌-◌, ◌*◌, ◌<◌, ◌≤◌, length, replicate, IfOk, Ok};
+ghost use Rattle.std.specs.Prelude.{◌≡◌, ◌-◌, ◌<◌, ◌≤◌, length, replicate, position, is_none, IfSome, option_map, slice_get, Ok, None};
 ghost use Rattle.model.specs.declared.kinds.Slot.TheVariants.{Empty};
-ghost use Rattle.model.specs.Plan.{slot_of, own_slot, slot_at, runs, vacant, lives, last_filled, length_of, list_length, next_slot, places};
+ghost use Rattle.model.specs.Plan.{slot_of, own_slot, slot_at, runs, vacant, lives, last_filled, length_of, list_length, next_slot, spaces_of};
 ghost use Rattle.model.specs.Kalls.{put_own, put_listed, put_in};
-ghost use Rattle.model.specs.SetUp.{bare, unenrolled, enrol, enrolled, owned, living, Sets};
-ghost use Rattle.scene.specs.Places.{base_of, seek, place_of, Within};
-ghost use Rattle.scene.specs.Abstract.{frame, homes, OnAShelf, process_of, living_of, depth_of, wiped, Makes, Ends};
+ghost use Rattle.model.specs.SetUp.{bare, enrol, enrolled, owned, living};
+ghost use Rattle.scene.specs.Places.{base_of, part_of, placed, is_numbered, place_of};
+ghost use Rattle.scene.specs.Abstract.{frame, homes, IsLastFilled, object_of, process_of, Makes, Ends, Steps};
+ghost use Rattle.scene.specs.Tasks.{task_of, index_of};
 
-use crate::kinds::{Row, Spot, State};
+use crate::kinds::{Body, Object, Process, Spot, State};
 use crate::limits::room;
-use crate::tables::{FREE, NEWCOMER, NOBODY, Tables};
-use model::kinds::{EMPTY, Holder, Name, Owner, Slot};
+use crate::tables::Tables;
+use model::kinds::{EMPTY, Holder, Name, Owner, Site, Slot, Space};
 use model::signals::{Fault, Signal};
+use std::array;
 
 fn base(share: u32) -> usize
     ensures { result ≡ base_of share }
@@ -23,48 +25,44 @@ fn base(share: u32) -> usize
     }
 }
 
-fn size(share: u32) -> usize
-    ensures { result ≡ places share }
+// The index of the last filled slot.
+fn last(slots: &[Slot]) -> Option<usize>
+    ensures { IsLastFilled slots.now result }
 {
-    if share == 0 {
-        32
-    } else if share < 9 {
-        16
-    } else {
-        0
-    }
+    slots.iter().rposition(|slot| *slot != Slot::Empty)
 }
 
-fn wipe(slots: &mut [Slot; 1280], place: usize)
-    requires { place < 160 }
-    ensures { slots.new ≡ wiped slots.old (8 * place) 8 }
-{
-    for i in 0..8usize {
-        slots[8 * place + i] = EMPTY;
-    }
-}
-
-// The index of the last filled slot, or 0.
+// The index after it, or 0.
 fn last_filled(slots: &[Slot]) -> usize
     ensures value { result ≡ last_filled slots.now }
     ensures bound { result ≤ length slots.now }
 {
-    let mut last = 0;
-    for (i, slot) in slots.iter().enumerate() {
-        match slot {
-            Slot::Empty => {}
-            _ => last = i + 1,
-        }
-    }
-    last
+    last(slots).map_or(0, |index| index + 1)
 }
 
-// The same of a name space, which has twelve.
-fn space_length(slots: &[Slot; 12]) -> usize
-    ensures value { result ≡ last_filled slots.now }
-    ensures bound { result ≤ 12 }
+// The first of the places that is unused.
+fn unused<T>(places: &[Option<T>]) -> Option<usize>
+    ensures { result ≡ position is_none places.now }
 {
-    last_filled(slots)
+    places.iter().position(|place| place.is_none())
+}
+
+// The place with the object of a number.
+fn numbered(places: &[Option<Object>], number: u32) -> Option<usize>
+    ensures { result ≡ position (is_numbered number) places.now }
+{
+    places.iter().position(|place| place.is_some_and(|object| object.number == number))
+}
+
+// The index of a process: they go by 1 to 8.
+fn index_of(process: u32) -> Option<usize>
+    ensures value { result ≡ index_of process }
+    ensures bound { IfSome result (λ i. i < 8) }
+{
+    match process {
+        1..=8 => Some(process as usize - 1),
+        _ => None,
+    }
 }
 
 impl Tables {
@@ -73,49 +71,65 @@ impl Tables {
         ensures slots { result.slots ≡ replicate 1280 Empty }
     {
         Tables {
-            objects: [FREE; 160],
+            objects: [None; 160],
             slots: [EMPTY; 1280],
             given: [0; 9],
-            processes: [NOBODY; 8],
+            processes: array::from_fn(|_| None),
         }
     }
 
-    // The first place of a share whose row has the number.
-    fn scan(&self, share: u32, number: u32) -> Option<usize>
-        ensures value { result ≡ seek self.now.objects number (places share) (base_of share) }
-        ensures within { Within result }
+    // The places of a share.
+    fn places(&self, share: u32) -> &[Option<Object>]
+        ensures value { result.now ≡ part_of self.now.objects share }
+        ensures bound { length result.now ≤ 32 }
     {
         let low = base(share);
-        let high = low + size(share);
-        for i in low..high {
-            if self.objects[i].number == number {
-                return Some(i);
-            }
+        match share {
+            0 => &self.objects[low..low + 32],
+            1..=8 => &self.objects[low..low + 16],
+            _ => &[],
         }
-        None
     }
 
+    // Where an object lies.
     fn find(&self, name: Name) -> Option<usize>
         ensures value { result ≡ place_of self.now.objects name.share name.number }
-        ensures within { Within result }
+        ensures bound { IfSome result (λ p. p < 160) }
     {
-        if name.number == 0 {
-            return None;
-        }
-        self.scan(name.share, name.number)
+        let low = base(name.share);
+        numbered(self.places(name.share), name.number).map(|index| low + index)
+    }
+
+    // An unused place of a share.
+    fn unused_place(&self, share: u32) -> Option<usize>
+        ensures value { result ≡ placed share (position is_none (part_of self.now.objects share)) }
+        ensures bound { IfSome result (λ p. (share < 9) × (p < 160)) }
+    {
+        let low = base(share);
+        unused(self.places(share)).map(|index| low + index)
+    }
+
+    #[tactic(auto, unfolding(crate::specs::Abstract::object_of, crate::specs::Abstract::list_at))]
+    fn body(&self, name: Name) -> Option<Body<'_>>
+        ensures { option_map (λ b. record { kind = b.kind; list = b.list.now }) result ≡ object_of self.now.objects self.now.slots name }
+    {
+        let place = self.find(name)?;
+        let object = self.objects[place]?;
+        Some(Body {
+            kind: object.kind,
+            list: &self.slots[8 * place..8 * place + 8],
+        })
     }
 
     // A slot of an object's list, by an index from 0; `at` is the detail of a refusal.
     pub fn slot(&self, name: Name, index: usize, at: u8) -> Result<Slot, Fault>
         ensures { result ≡ slot_of (frame self.now) name index at }
     {
-        let Some(place) = self.find(name) else {
-            return Err(Fault::new(Signal::Sgone, at));
-        };
-        if index >= room(self.objects[place].kind) {
+        let body = self.body(name).ok_or(Fault::new(Signal::Sgone, at))?;
+        if index >= room(body.kind) {
             return Err(Fault::new(Signal::Sindex, at));
         }
-        Ok(self.slots[8 * place + index])
+        Ok(body.list[index])
     }
 
     pub fn put(&mut self, name: Name, index: usize, slot: Slot)
@@ -133,220 +147,198 @@ impl Tables {
     pub fn make(&mut self, share: u32, kind: u32) -> Result<Spot, Fault>
         ensures { Makes share kind self.old self.new result }
     {
-        let Some(place) = self.scan(share, 0) else {
-            return Err(Fault::new(Signal::Sroom, 0));
-        };
+        let place = self
+            .unused_place(share)
+            .ok_or(Fault::new(Signal::Sroom, 0))?;
         let number = self.given[share as usize];
         if number >= 60000 {
             return Err(Fault::new(Signal::Snames, 0));
         }
-        wipe(&mut self.slots, place);
+        self.slots[8 * place..8 * place + 8].fill(EMPTY);
         self.given[share as usize] = number + 1;
-        self.objects[place] = Row {
+        self.objects[place] = Some(Object {
             number: number + 1,
             kind,
-        };
+        });
         Ok(Spot {
             place: place + 1,
             number: number + 1,
         })
     }
 
-    pub fn running(&self, process: u32) -> Result<u32, Fault>
+    #[tactic(auto, unfolding(crate::specs::Abstract::process_of))]
+    fn task(&self, process: u32) -> Option<&Process>
+        ensures { option_map (λ t. task_of t.now) result ≡ process_of self.now.processes process }
+    {
+        self.processes[index_of(process)?].as_ref()
+    }
+
+    #[tactic(auto, unfolding(model::specs::Plan::runs))]
+    pub fn running(&self, process: u32) -> Result<(), Fault>
         ensures { result ≡ runs process (frame self.now) }
     {
-        if process == 0 || process > 8 {
-            return Err(Fault::new(Signal::Sproc, 0));
-        }
-        match self.processes[process as usize - 1].state {
-            State::Absent => Err(Fault::new(Signal::Sproc, 0)),
-            State::Running => Ok(0),
+        let task = self.task(process).ok_or(Fault::new(Signal::Sproc, 0))?;
+        match task.state {
+            State::Running => Ok(()),
             State::Stopped => Err(Fault::new(Signal::Sstop, 0)),
         }
     }
 
-    // How many name spaces a process has: none if it is not enrolled.
-    fn depth(&self, process: u32) -> usize
-        ensures value { result ≡ depth_of self.now.processes process }
-        ensures bound { result ≤ 6 }
-        ensures within { 0 < result → (1 ≤ process) × (process ≤ 8) }
+    // The current name space.
+    fn current(&self, process: u32) -> Option<&Space>
+        ensures { option_map (λ s. s.now) result ≡ slice_get (spaces_of (process_of self.now.processes process)) 0 }
     {
-        if process == 0 || process > 8 {
-            return 0;
-        }
-        match self.processes[process as usize - 1].state {
-            State::Absent => 0,
-            _ => self.processes[process as usize - 1].depth as usize,
-        }
+        self.task(process)?.spaces.as_slice().last()
     }
 
     // A slot of the current name space, by an index from 0.
     pub fn own(&self, process: u32, index: usize, at: u8) -> Result<Slot, Fault>
         ensures { result ≡ own_slot (frame self.now) process index at }
     {
-        let depth = self.depth(process);
-        if depth == 0 || index >= 12 {
-            return Err(Fault::new(Signal::Sindex, at));
-        }
-        Ok(self.processes[process as usize - 1].spaces[depth - 1].slots[index])
+        self.current(process)
+            .and_then(|space| space.slots.get(index))
+            .copied()
+            .ok_or(Fault::new(Signal::Sindex, at))
     }
 
     pub fn put_own(&mut self, process: u32, index: usize, slot: Slot)
         ensures after { frame self.new ≡ put_own process index slot (frame self.old) }
         ensures homes { homes self.new ≡ homes self.old }
     {
-        let depth = self.depth(process);
-        if depth > 0 && index < 12 {
-            self.processes[process as usize - 1].spaces[depth - 1].slots[index] = slot;
+        if index >= 12 {
+            return;
         }
+        let Some(i) = index_of(process) else {
+            return;
+        };
+        let Some(task) = &mut self.processes[i] else {
+            return;
+        };
+        let Some(space) = task.spaces.as_mut_slice().last_mut() else {
+            return;
+        };
+        space.slots[index] = slot;
     }
 
     // The length of the current name space.
+    #[tactic(auto, unfolding(model::specs::Plan::length_of))]
     pub fn length(&self, process: u32) -> usize
         ensures value { Ok result ≡ length_of process (frame self.now) }
         ensures bound { result ≤ 12 }
     {
-        let depth = self.depth(process);
-        if depth == 0 {
-            return 0;
-        }
-        space_length(&self.processes[process as usize - 1].spaces[depth - 1].slots)
+        self.current(process)
+            .map_or(0, |space| last_filled(&space.slots))
     }
 
     // The length of an object's list.
+    #[tactic(auto, unfolding(model::specs::Plan::list_length))]
     pub fn list_length(&self, name: Name) -> usize
         ensures value { Ok result ≡ list_length name (frame self.now) }
         ensures bound { result ≤ 8 }
     {
-        let Some(place) = self.find(name) else {
-            return 0;
-        };
-        last_filled(&self.slots[8 * place..8 * place + 8])
+        self.body(name).map_or(0, |body| last_filled(body.list))
     }
 
     // The object and its list end, and its place serves again.
-    pub fn end(&mut self, name: Name) -> Result<u32, Fault>
+    pub fn end(&mut self, name: Name) -> Result<(), Fault>
         ensures { Ends name self.old self.new result }
     {
-        let Some(place) = self.find(name) else {
-            return Err(Fault::new(Signal::Sgone, 0));
-        };
-        self.objects[place] = FREE;
-        Ok(0)
+        let place = self.find(name).ok_or(Fault::new(Signal::Sgone, 0))?;
+        self.objects[place] = None;
+        Ok(())
     }
 
     // The slot after a list's length, by its index from 1.
+    #[tactic(auto, unfolding(model::specs::Plan::next_slot))]
     pub fn next_slot(&self, name: Name) -> Result<u32, Fault>
         ensures { result ≡ next_slot name (frame self.now) }
     {
-        let Some(place) = self.find(name) else {
-            return Err(Fault::new(Signal::Slim, 0));
-        };
-        let length = last_filled(&self.slots[8 * place..8 * place + 8]);
-        if length >= room(self.objects[place].kind) {
+        let body = self.body(name).ok_or(Fault::new(Signal::Slim, 0))?;
+        let length = last_filled(body.list);
+        if length >= room(body.kind) {
             return Err(Fault::new(Signal::Slim, 0));
         }
         Ok(length as u32 + 1)
     }
 
     // Where on the shelf an object's elements lie.
+    #[tactic(auto, unfolding(crate::specs::Abstract::home_of))]
     pub fn home(&self, name: Name) -> Option<usize>
         ensures value { result ≡ homes self.now name }
-        ensures within { OnAShelf result }
+        ensures within { IfSome result (λ p. (1 ≤ p) × (p ≤ 160)) }
     {
-        match self.find(name) {
-            Some(place) => Some(place + 1),
-            None => None,
-        }
+        self.find(name).map(|place| place + 1)
     }
 
     pub fn is_living(&self, name: Name) -> bool
         ensures { result ≡ lives (frame self.now) name }
     {
-        match self.find(name) {
-            Some(_) => true,
-            None => false,
-        }
+        self.find(name).is_some()
     }
 
-    // A slot by an index from 1.
-    pub fn reach(&self, process: u32, holder: Holder, index: u32, at: u8) -> Result<Slot, Fault>
-        ensures { result ≡ slot_at (frame self.now) process holder index at }
+    pub fn reach(&self, process: u32, site: Site) -> Result<Slot, Fault>
+        ensures { result ≡ slot_at (frame self.now) process site.holder site.index site.at }
     {
-        if index == 0 {
-            return Err(Fault::new(Signal::Sindex, at));
+        if site.index == 0 {
+            return Err(Fault::new(Signal::Sindex, site.at));
         }
-        match holder {
-            Holder::Mine => self.own(process, index as usize - 1, at),
-            Holder::Listed(name) => self.slot(name, index as usize - 1, at),
+        let i = site.index as usize - 1;
+        match site.holder {
+            Holder::Mine => self.own(process, i, site.at),
+            Holder::Listed(name) => self.slot(name, i, site.at),
         }
     }
 
-    // An empty slot, by an index from 1.
-    pub fn vacant(&self, process: u32, holder: Holder, index: u32, at: u8) -> Result<u32, Fault>
-        ensures { result ≡ vacant process holder index at (frame self.now) }
+    // An empty slot.
+    #[tactic(auto, unfolding(model::specs::Plan::vacant))]
+    pub fn vacant(&self, process: u32, site: Site) -> Result<(), Fault>
+        ensures { result ≡ vacant process site.holder site.index site.at (frame self.now) }
     {
-        match self.reach(process, holder, index, at)? {
-            Slot::Empty => Ok(0),
-            _ => Err(Fault::new(Signal::Sfull, at)),
+        match self.reach(process, site)? {
+            Slot::Empty => Ok(()),
+            _ => Err(Fault::new(Signal::Sfull, site.at)),
         }
     }
 
-    // A slot is put, by an index from 1; there is none at index 0 and past the end.
-    pub fn put_in(&mut self, process: u32, holder: Holder, index: u32, slot: Slot)
-        ensures after { frame self.new ≡ put_in process holder (index - 1) slot (frame self.old) }
+    // A slot is put; there is none at index 0 and past the end.
+    pub fn put_in(&mut self, process: u32, site: Site, slot: Slot)
+        ensures after { frame self.new ≡ put_in process site.holder (site.index - 1) slot (frame self.old) }
         ensures homes { homes self.new ≡ homes self.old }
     {
-        let i = if index == 0 { 0 } else { index as usize - 1 };
-        match holder {
+        let i = site.index.saturating_sub(1) as usize;
+        match site.holder {
             Holder::Mine => self.put_own(process, i, slot),
             Holder::Listed(name) => self.put(name, i, slot),
         }
     }
 
-    fn unenrolled(&self) -> Result<u32, Fault>
-        ensures value { result ≡ unenrolled (process_of self.now.processes) 8 1 }
-        ensures within { IfOk result (λ p. (1 ≤ p) × (p ≤ 8)) }
-    {
-        for process in 1..9u32 {
-            if let Err(_) = self.enrolled(process) {
-                return Ok(process);
-            }
-        }
-        Err(Fault::new(Signal::Sroom, 0))
-    }
-
     pub(crate) fn enrol(&mut self) -> Result<u32, Fault>
-        ensures { Sets result (frame self.old) (homes self.old) (frame self.new) (homes self.new) (enrol (frame self.old)) }
+        ensures { Steps self.old self.new result enrol }
     {
-        let process = self.unenrolled()?;
-        self.processes[process as usize - 1] = NEWCOMER;
-        Ok(process)
+        let i = unused(&self.processes).ok_or(Fault::new(Signal::Sroom, 0))?;
+        self.processes[i] = Some(Process::new());
+        Ok(i as u32 + 1)
     }
 
-    fn enrolled(&self, process: u32) -> Result<u32, Fault>
+    fn enrolled(&self, process: u32) -> Result<(), Fault>
         ensures { result ≡ enrolled (process_of self.now.processes process) }
     {
-        if process == 0 || process > 8 {
-            return Err(Fault::new(Signal::Sproc, 0));
-        }
-        match self.processes[process as usize - 1].state {
-            State::Absent => Err(Fault::new(Signal::Sproc, 0)),
-            _ => Ok(0),
-        }
+        self.task(process).ok_or(Fault::new(Signal::Sproc, 0))?;
+        Ok(())
     }
 
-    pub(crate) fn alive(&self, name: Name) -> Result<u32, Fault>
+    pub(crate) fn alive(&self, name: Name) -> Result<(), Fault>
         ensures { result ≡ living name (frame self.now) }
     {
         if self.is_living(name) {
-            Ok(0)
+            Ok(())
         } else {
             Err(Fault::new(Signal::Sgone, 0))
         }
     }
 
-    pub(crate) fn owned(&self, owner: Owner) -> Result<u32, Fault>
+    #[tactic(auto, unfolding(model::specs::SetUp::owned))]
+    pub(crate) fn owned(&self, owner: Owner) -> Result<(), Fault>
         ensures { result ≡ owned owner (frame self.now) }
     {
         match owner {
@@ -356,17 +348,13 @@ impl Tables {
     }
 
     // How many objects of a share live.
+    #[tactic(auto, unfolding(crate::specs::Abstract::living_of))]
     pub(crate) fn living(&self, share: u32) -> u32
         ensures { result ≡ (frame self.now).living share }
     {
-        let low = base(share);
-        let high = low + size(share);
-        let mut living = 0;
-        for i in low..high {
-            if self.objects[i].number != 0 {
-                living += 1;
-            }
-        }
-        living
+        self.places(share)
+            .iter()
+            .filter(|place| place.is_some())
+            .count() as u32
     }
 }

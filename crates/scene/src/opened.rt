@@ -6,6 +6,7 @@ ghost use Rattle.scene.specs.Abstract.{frame};
 use crate::setup::SetUp;
 use crate::tables::Tables;
 use rights::rule::RightsRule;
+use std::array;
 
 pub struct Scene<R> {
     pub rule: R,
@@ -36,16 +37,6 @@ pub fn reckon<R: RightsRule + Drop>(scene: Scene<R>, slip: Slip) -> Reckoning
     let Slip { mark: _ } = slip;
     let Scene { rule: _, tables } = scene;
     Reckoning {
-        living: [
-            tables.living(0),
-            tables.living(1),
-            tables.living(2),
-            tables.living(3),
-            tables.living(4),
-            tables.living(5),
-            tables.living(6),
-            tables.living(7),
-            tables.living(8),
-        ],
+        living: array::from_fn(|share| tables.living(share as u32)),
     }
 }

@@ -1,14 +1,13 @@
 // A scene is set up: processes are enrolled, house objects made, slots planted.
 ghost use Rattle.std.specs.Prelude.{◌≡◌, replicate};
 ghost use Rattle.model.specs.declared.kinds.Slot.TheVariants.{Empty};
-ghost use Rattle.model.specs.Plan.{code_ok};
-ghost use Rattle.model.specs.SetUp.{HouseObjects, HouseHeld, HouseListed, Sets, SetsAll, bare, enrol, furnish, fits, plant, template, house, holder, caller, wanted_ok, codes_ok};
-ghost use Rattle.scene.specs.Abstract.{frame, homes, world};
+ghost use Rattle.model.specs.SetUp.{HouseObjects, HouseHeld, HouseListed, SetsAll, bare, enrol, furnish, fits, plant, template, house, holder, caller, wanted_ok, codes_ok};
+ghost use Rattle.scene.specs.Abstract.{frame, world, Steps};
 
 use crate::fill::create;
 use crate::limits::limits;
 use crate::tables::Tables;
-use model::kinds::{Cap, Form, Holder, Limits, Name, Owner, Slot};
+use model::kinds::{Cap, Form, Holder, Limits, Name, Owner, Site, Slot};
 use model::signals::{Fault, Signal};
 use rights::rule::RightsRule;
 use shelf::traits::WritableShelf;
@@ -29,15 +28,6 @@ fn house(number: u32) -> Name
     Name { share: 0, number }
 }
 
-fn holder(owner: Owner) -> Holder
-    ensures { result ≡ holder owner }
-{
-    match owner {
-        Owner::Process(_) => Holder::Mine,
-        Owner::Object(number) => Holder::Listed(house(number)),
-    }
-}
-
 fn caller(owner: Owner) -> u32
     ensures { result ≡ caller owner }
 {
@@ -47,45 +37,45 @@ fn caller(owner: Owner) -> u32
     }
 }
 
-fn fits(count: u32, given: usize, limits: Limits) -> Result<u32, Fault>
+// The slot of an owner by its index from 1.
+fn site(owner: Owner, index: u32) -> Site
+    ensures { result ≡ record { holder = holder owner; index = index; at = 0 } }
+{
+    match owner {
+        Owner::Process(_) => Site::own(index),
+        Owner::Object(number) => Site {
+            holder: Holder::Listed(house(number)),
+            index,
+            at: 0,
+        },
+    }
+}
+
+fn fits(count: u32, given: usize, limits: Limits) -> Result<(), Fault>
     ensures { result ≡ fits count given limits }
 {
     if count as usize <= limits.elements && count as usize <= given {
-        Ok(0)
+        Ok(())
     } else {
         Err(Fault::new(Signal::Slim, 0))
     }
 }
 
-fn code_ok<R: RightsRule>(rule: &R, code: u32) -> Result<u32, Fault>
-    ensures { result ≡ code_ok R.RightsRule.rule code }
-{
-    if rule.is_valid(code) {
-        Ok(0)
-    } else {
-        Err(Fault::new(Signal::Smask, 0))
-    }
-}
-
-fn codes_ok<R: RightsRule>(rule: &R, form: Form) -> Result<u32, Fault>
+fn codes_ok<R: RightsRule>(rule: &R, form: Form) -> Result<(), Fault>
     ensures { result ≡ codes_ok R.RightsRule.rule form }
 {
-    code_ok(rule, form.rights)?;
-    code_ok(rule, form.check)?;
-    code_ok(rule, form.new)
+    rule.check(form.rights)?;
+    rule.check(form.check)?;
+    rule.check(form.new)
 }
 
-fn wanted_ok(kind: u32) -> Result<Limits, Fault>
+fn wanted_ok(kind: u32) -> Result<(), Fault>
     ensures { result ≡ wanted_ok kind }
 {
-    if kind == 0 {
-        Ok(Limits {
-            slots: 0,
-            elements: 0,
-        })
-    } else {
-        limits(kind)
+    if kind != 0 {
+        limits(kind)?;
     }
+    Ok(())
 }
 
 impl<R: RightsRule> SetUp<R> {
@@ -101,7 +91,7 @@ impl<R: RightsRule> SetUp<R> {
 
     // The next process, with an empty name space: its number.
     pub fn enrol(&mut self) -> Result<u32, Fault>
-        ensures { Sets result (frame self.old.tables) (homes self.old.tables) (frame self.new.tables) (homes self.new.tables) (enrol (frame self.old.tables)) }
+        ensures { Steps self.old.tables self.new.tables result enrol }
     {
         self.tables.enrol()
     }
@@ -118,35 +108,35 @@ impl<R: RightsRule> SetUp<R> {
     {
         let limits = limits(kind)?;
         fits(count, buffer.len(), limits)?;
-        create(&mut self.tables, shelf, 0, kind, &buffer[0..count as usize])
+        create(&mut self.tables, shelf, 0, kind, &buffer[..count as usize])
     }
 
-    // A capability for a house object in an empty slot.
+    // A capability for a house object in an empty slot; what is done is answered by 0.
     pub fn plant(&mut self, owner: Owner, slot: u32, object: u32, code: u32) -> Result<u32, Fault>
-        ensures { Sets result (frame self.old.tables) (homes self.old.tables) (frame self.new.tables) (homes self.new.tables) (plant R.RightsRule.rule owner slot object code (frame self.old.tables)) }
+        ensures { Steps self.old.tables self.new.tables result (plant R.RightsRule.rule owner slot object code) }
     {
         self.tables.owned(owner)?;
-        self.tables.vacant(caller(owner), holder(owner), slot, 0)?;
+        self.tables.vacant(caller(owner), site(owner, slot))?;
         self.tables.alive(house(object))?;
-        code_ok(&self.rule, code)?;
+        self.rule.check(code)?;
         let cap = Slot::Capability(Cap {
             name: house(object),
             rights: code,
         });
-        self.tables.put_in(caller(owner), holder(owner), slot, cap);
+        self.tables.put_in(caller(owner), site(owner, slot), cap);
         Ok(0)
     }
 
-    // A template in an empty slot.
+    // A template in an empty slot; what is done is answered by 0.
     pub fn template(&mut self, owner: Owner, slot: u32, form: Form) -> Result<u32, Fault>
-        ensures { Sets result (frame self.old.tables) (homes self.old.tables) (frame self.new.tables) (homes self.new.tables) (template R.RightsRule.rule owner slot form (frame self.old.tables)) }
+        ensures { Steps self.old.tables self.new.tables result (template R.RightsRule.rule owner slot form) }
     {
         self.tables.owned(owner)?;
-        self.tables.vacant(caller(owner), holder(owner), slot, 0)?;
+        self.tables.vacant(caller(owner), site(owner, slot))?;
         wanted_ok(form.wanted)?;
         codes_ok(&self.rule, form)?;
         self.tables
-            .put_in(caller(owner), holder(owner), slot, Slot::Template(form));
+            .put_in(caller(owner), site(owner, slot), Slot::Template(form));
         Ok(0)
     }
 }

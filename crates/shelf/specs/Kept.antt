@@ -1,7 +1,7 @@
 -- How sequences lie in cells, by a table of their lengths. Place p's length is at p - 1.
-use Rattle.std.specs.Prelude.{◌≡◌, ℕ, zero, suc, ◌+◌, ◌-◌, ◌*◌, ◌<◌, ◌≤◌, cond, ◌&&◌, List, [], ◌∷◌, length, take, drop, Result, nat_le, nat_lt, slice_index, slice_index_or}
+use Rattle.std.specs.Prelude.{◌≡◌, ◌≢◌, ℕ, ◌+◌, ◌-◌, ◌*◌, ◌<◌, ◌≤◌, cond, ◌&&◌, List, [], length, take, drop, sum, Result, nat_le, nat_lt, slice_index, slice_index_or}
 use Rattle.model.specs.declared.signals.Fault.{Fault}
-use Rattle.shelf.specs.Places.{is_place, if_so, greatest}
+use Rattle.shelf.specs.Places.{is_place, if_so, greatest, most}
 
 abbrev pub Short : List ℕ → Type 0
 Short lengths = (i : ℕ) → slice_index lengths i ≤ greatest
@@ -22,25 +22,31 @@ rows lengths cells = laid row lengths cells
 
 -- the sum of the first i lengths
 abbrev pub before : List ℕ → ℕ → ℕ
-before ls zero = 0
-before [] (suc i) = 0
-before (n ∷ ls) (suc i) = n + before ls i
+before lengths i = sum (take i lengths)
+
+abbrev pub begin : List ℕ → ℕ → ℕ
+begin lengths p = before lengths (p - 1)
 
 abbrev pub packed : {E : Type 0} → List ℕ → List E → ℕ → List E
-packed lengths cells = laid (λ p. before lengths (p - 1)) lengths cells
+packed lengths cells = laid (begin lengths) lengths cells
 
--- ys is xs with the cells from `from` on, up to `to`, moved to `at`; those before both stay
-pub record Shifted {E : Type 0} (from to at : ℕ) (xs ys : List E) : Type 0 where
+-- by any lengths the sequences lie among the first cells, and none over another
+pub record Lawful (start : List ℕ → ℕ → ℕ) : Type 0 where
+  pub fits : (lengths : List ℕ) (p : ℕ) → Short lengths → 1 ≤ p → p ≤ 160 → start lengths p + slice_index lengths (p - 1) ≤ most
+  pub apart : (lengths : List ℕ) (p q j k : ℕ) → Short lengths → 1 ≤ p → p ≤ 160 → 1 ≤ q → q ≤ 160 → q ≢ p → j < slice_index lengths (q - 1) → k < slice_index lengths (p - 1) → start lengths q + j ≢ start lengths p + k
+
+-- each element of xs by the lengths `from` that the lengths `to` leave stands in ys where these say
+pub record Moved {E : Type 0} (start : List ℕ → ℕ → ℕ) (from to : List ℕ) (xs ys : List E) : Type 0 where
   pub size : length ys ≡ length xs
-  pub low : (k : ℕ) (d : E) → k < from → k < at → slice_index_or ys k d ≡ slice_index_or xs k d
-  pub moved : (j : ℕ) (d : E) → from + j < to → slice_index_or ys (at + j) d ≡ slice_index_or xs (from + j) d
+  pub left : (q k : ℕ) (d : E) → 1 ≤ q → q ≤ 160 → k < slice_index from (q - 1) → k < slice_index to (q - 1) → slice_index_or ys (start to q + k) d ≡ slice_index_or xs (start from q + k) d
 
--- a place's length, an index of it from 0, and its length if it can grow; else the refusal
-abbrev pub kept_length : ℕ → List ℕ → Result ℕ Fault
-kept_length p ls = if_so (is_place p) (slice_index ls (p - 1))
-
+-- an index of place p's sequence from 0, and its length with one more element; else the refusal
 abbrev pub kept_index : ℕ → ℕ → List ℕ → Result ℕ Fault
-kept_index p i ls = if_so (is_place p && (nat_le 1 i && nat_le i (slice_index ls (p - 1)))) (i - 1)
+kept_index p i ls = if_so (nat_le 1 i && nat_le i (slice_index ls (p - 1))) (i - 1)
 
-abbrev pub kept_room : ℕ → List ℕ → Result ℕ Fault
-kept_room p ls = if_so (is_place p && nat_lt (slice_index ls (p - 1)) greatest) (slice_index ls (p - 1))
+abbrev pub kept_longer : ℕ → List ℕ → Result ℕ Fault
+kept_longer p ls = if_so (nat_lt (slice_index ls (p - 1)) greatest) (slice_index ls (p - 1) + 1)
+
+-- the cell of the element at an index from 1, else the refusal
+abbrev pub kept_cell : (ℕ → ℕ) → ℕ → ℕ → List ℕ → Result ℕ Fault
+kept_cell start p i ls = if_so (is_place p && (nat_le 1 i && nat_le i (slice_index ls (p - 1)))) (start p + (i - 1))

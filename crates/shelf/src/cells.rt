@@ -1,31 +1,15 @@
-// Cells that a caller lends to a shelf, one for each element that it can ever hold, and the shelves that keep their elements in them.
+// Cells that a caller lends to a shelf, one for each element that it can ever hold.
 ghost use Rattle.std.specs.Prelude.{◌≡◌, ◌≤◌, length};
 ghost use Rattle.std.specs.Result.{result_map_both};
 ghost use Rattle.shelf.specs.Places.{most, counted};
 
-use crate::lengths::{Lengths, refusal};
+use crate::lengths::refusal;
 use crate::traits::{LONGEST, PLACES};
 use model::signals::Fault;
 
 #[derive(Drop)]
 pub struct Cells<'a, E> {
     pub(crate) cells: &'a mut [E],
-    ghost enough: { most ≤ length cells.now },
-}
-
-// 64 cells for each place, used or not.
-#[derive(Drop)]
-pub struct Rows<'a, E> {
-    pub(crate) cells: &'a mut [E],
-    pub(crate) lengths: Lengths,
-    ghost enough: { most ≤ length cells.now },
-}
-
-// The sequences end to end, in the order of their places.
-#[derive(Drop)]
-pub struct Packed<'a, E> {
-    pub(crate) cells: &'a mut [E],
-    pub(crate) lengths: Lengths,
     ghost enough: { most ≤ length cells.now },
 }
 

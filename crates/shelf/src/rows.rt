@@ -1,58 +1,38 @@
-// The shelf with a row of 64 cells for each place.
+// The shelf with a row of 64 cells for each place, used or not.
 ghost use Rattle.std.specs.Prelude.{◌≡◌, []};
+ghost use Rattle.shelf.specs.Kept.{row};
+ghost use Rattle.shelf.specs.RowLaws;
 ghost use Rattle.shelf.specs.Held.{in_rows};
 
 use crate::cells::Cells;
-pub use crate::cells::Rows;
-use crate::lengths::Lengths;
-use crate::traits::{LONGEST, ReadableShelf, WritableShelf};
-use model::signals::Fault;
+use crate::laid::Laid;
+use crate::layout::Layout;
+use crate::lengths::{Length, Lengths};
+use crate::place::Place;
+use crate::traits::LONGEST;
 
+#[derive(Drop)]
+pub struct InRows {}
+
+pub type Rows<'a, E> = Laid<'a, E, InRows>;
+
+impl Layout for InRows {
+    ghost start = { λ _. row };
+
+    ghost lawful = { RowLaws.lawful };
+
+    fn start(_: &Lengths, place: Place) -> usize {
+        LONGEST * (place.number - 1)
+    }
+
+    fn resize<E: Copy>(_: &mut Cells<'_, E>, _: &Lengths, _: Place, _: Length) {}
+}
+
+// Each shelf's making says what that shelf holds.
 impl<'a, E> Rows<'a, E> {
     pub fn new(cells: Cells<'a, E>) -> Rows<'a, E>
         ensures { in_rows result ≡ (λ _. []) }
     {
-        let lent = cells.cells;
-        let lengths = Lengths::new();
-        Rows {
-            cells: lent,
-            lengths,
-        }
-    }
-}
-
-impl<'a, E: Copy> ReadableShelf for Rows<'a, E> {
-    type Element = E;
-
-    ghost holds = { in_rows };
-
-    fn length(&mut self, place: usize) -> Result<usize, Fault> {
-        self.lengths.of(place)
-    }
-
-    fn element(&mut self, place: usize, index: usize) -> Result<E, Fault> {
-        let at = self.lengths.within(place, index)?;
-        Ok(self.cells[LONGEST * (place - 1) + at])
-    }
-}
-
-impl<'a, E: Copy> WritableShelf for Rows<'a, E> {
-    fn replace(&mut self, place: usize, index: usize, element: E) -> Result<(), Fault> {
-        let at = self.lengths.within(place, index)?;
-        self.cells[LONGEST * (place - 1) + at] = element;
-        Ok(())
-    }
-
-    fn append(&mut self, place: usize, element: E) -> Result<(), Fault> {
-        let n = self.lengths.room(place)?;
-        self.cells[LONGEST * (place - 1) + n] = element;
-        self.lengths.set(place, n + 1);
-        Ok(())
-    }
-
-    fn clear(&mut self, place: usize) -> Result<(), Fault> {
-        self.lengths.of(place)?;
-        self.lengths.set(place, 0);
-        Ok(())
+        Laid::empty(cells)
     }
 }

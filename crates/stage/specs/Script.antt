@@ -1,5 +1,6 @@
 -- What the words of a script say.
-use Rattle.std.specs.Prelude.{◌≡◌, ℕ, ◌^◌, cond, ◌&&◌, List, length, Some, None, Ok, Err, codes, Option, Result, ◌≢◌, nat_lt}
+use Rattle.std.specs.Prelude.{◌≡◌, ℕ, ◌^◌, cond, ◌&&◌, List, [], ◌∷◌, length, Ok, Err, codes, ok_or, bytes_eq, Result, nat_lt}
+use Rattle.std.specs.Map.{lookup}
 use Rattle.std.specs.Str.Parse.{digits_value}
 use Rattle.std.specs.Str.{all_ascii_digits}
 use Rattle.stage.specs.declared.script.RuleName.{RuleName}
@@ -9,25 +10,22 @@ use Rattle.stage.specs.declared.script.ShelfName.TheVariants.{Rows, Packed}
 use Rattle.stage.specs.declared.script.ElementName.{ElementName}
 use Rattle.stage.specs.declared.script.ElementName.TheVariants.{Words, Floats}
 use Rattle.stage.specs.declared.wrong.Wrong.{Wrong}
-use Rattle.stage.specs.declared.wrong.Wrong.TheVariants.{Number}
+use Rattle.stage.specs.declared.wrong.Wrong.TheVariants.{Number, HeaderValue}
 
 -- decimal digits and nothing else, below 2^32
 abbrev pub numeral : List ℕ → Result ℕ Wrong
 numeral ds =
     cond (nat_lt 0 (length ds) && (all_ascii_digits ds && nat_lt (digits_value 10 ds) (2 ^ 32))) (Ok (digits_value 10 ds)) (Err Number)
 
--- the header's word and what it chooses; None where it is no such word
-abbrev pub RuleNamed : List ℕ → Option RuleName → Type 0
-RuleNamed word (Some Bits) = word ≡ codes "bits"
-RuleNamed word (Some Steps) = word ≡ codes "steps"
-RuleNamed word None = (word ≢ codes "bits") × (word ≢ codes "steps")
+-- by a table of a header's words: a word chooses what stands beside it there, and one that does not stand there is no value of the header
+abbrev pub Chooses : {T : Type 0} → List (List ℕ × T) → List ℕ → Result T Wrong → Type 0
+Chooses table word result = result ≡ ok_or (lookup (bytes_eq word) table) HeaderValue
 
-abbrev pub ShelfNamed : List ℕ → Option ShelfName → Type 0
-ShelfNamed word (Some Rows) = word ≡ codes "rows"
-ShelfNamed word (Some Packed) = word ≡ codes "packed"
-ShelfNamed word None = (word ≢ codes "rows") × (word ≢ codes "packed")
+abbrev pub RuleNamed : List ℕ → Result RuleName Wrong → Type 0
+RuleNamed = Chooses ((codes "bits", Bits) ∷ (codes "steps", Steps) ∷ [])
 
-abbrev pub ElementNamed : List ℕ → Option ElementName → Type 0
-ElementNamed word (Some Words) = word ≡ codes "words"
-ElementNamed word (Some Floats) = word ≡ codes "floats"
-ElementNamed word None = (word ≢ codes "words") × (word ≢ codes "floats")
+abbrev pub ShelfNamed : List ℕ → Result ShelfName Wrong → Type 0
+ShelfNamed = Chooses ((codes "rows", Rows) ∷ (codes "packed", Packed) ∷ [])
+
+abbrev pub ElementNamed : List ℕ → Result ElementName Wrong → Type 0
+ElementNamed = Chooses ((codes "words", Words) ∷ (codes "floats", Floats) ∷ [])

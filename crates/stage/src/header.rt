@@ -5,56 +5,65 @@ use crate::script::{ElementName, Header, RuleName, ShelfName};
 use crate::words::words;
 use crate::wrong::{BadLine, Wrong};
 use std::alloc::Global;
+use std::str::FromStr;
 
-fn rule_named(word: &str) -> Option<RuleName>
-    ensures { RuleNamed word.now result }
-{
-    match word {
-        "bits" => Some(RuleName::Bits),
-        "steps" => Some(RuleName::Steps),
-        _ => None,
+impl FromStr for RuleName {
+    type Err = Wrong;
+
+    ghost from_str_gives = { RuleNamed };
+
+    fn from_str(word: &str) -> Result<RuleName, Wrong> {
+        match word {
+            "bits" => Ok(RuleName::Bits),
+            "steps" => Ok(RuleName::Steps),
+            _ => Err(Wrong::HeaderValue),
+        }
     }
 }
 
-fn shelf_named(word: &str) -> Option<ShelfName>
-    ensures { ShelfNamed word.now result }
-{
-    match word {
-        "rows" => Some(ShelfName::Rows),
-        "packed" => Some(ShelfName::Packed),
-        _ => None,
+impl FromStr for ShelfName {
+    type Err = Wrong;
+
+    ghost from_str_gives = { ShelfNamed };
+
+    fn from_str(word: &str) -> Result<ShelfName, Wrong> {
+        match word {
+            "rows" => Ok(ShelfName::Rows),
+            "packed" => Ok(ShelfName::Packed),
+            _ => Err(Wrong::HeaderValue),
+        }
     }
 }
 
-fn element_named(word: &str) -> Option<ElementName>
-    ensures { ElementNamed word.now result }
-{
-    match word {
-        "words" => Some(ElementName::Words),
-        "floats" => Some(ElementName::Floats),
-        _ => None,
+impl FromStr for ElementName {
+    type Err = Wrong;
+
+    ghost from_str_gives = { ElementNamed };
+
+    fn from_str(word: &str) -> Result<ElementName, Wrong> {
+        match word {
+            "words" => Ok(ElementName::Words),
+            "floats" => Ok(ElementName::Floats),
+            _ => Err(Wrong::HeaderValue),
+        }
     }
 }
 
-fn choose<T: Copy>(place: &mut Option<T>, choice: Option<T>) -> Result<(), Wrong> {
+fn choose<T: FromStr<Err = Wrong> + Drop>(place: &mut Option<T>, word: &str) -> Result<(), Wrong> {
     if place.is_some() {
         return Err(Wrong::HeaderTwice);
     }
-    if choice.is_none() {
-        return Err(Wrong::HeaderValue);
-    }
-    *place = choice;
+    *place = Some(word.parse()?);
     Ok(())
 }
 
 // Whether the line belongs to the header, as a blank one does before all else.
 fn take_header(heap: Global, header: &mut Header, line: &str) -> Result<bool, Wrong> {
-    let words = words(heap, line)?;
-    match words.as_slice() {
+    match words(heap, line)?.as_slice() {
         [] => {}
-        ["rule", name] => choose(&mut header.rule, rule_named(name))?,
-        ["shelf", name] => choose(&mut header.shelf, shelf_named(name))?,
-        ["element", name] => choose(&mut header.element, element_named(name))?,
+        ["rule", name] => choose(&mut header.rule, name)?,
+        ["shelf", name] => choose(&mut header.shelf, name)?,
+        ["element", name] => choose(&mut header.element, name)?,
         _ => return Ok(false),
     }
     Ok(true)
@@ -62,18 +71,14 @@ fn take_header(heap: Global, header: &mut Header, line: &str) -> Result<bool, Wr
 
 // The header, and how many lines it takes.
 pub(crate) fn header(heap: Global, text: &str) -> Result<(Header, usize), BadLine> {
-    let mut header = Header {
-        rule: None,
-        shelf: None,
-        element: None,
-    };
+    let mut header = Header::default();
     let mut lines = 0;
-    for (i, line) in text.split('\n').enumerate() {
-        match take_header(heap, &mut header, line) {
-            Ok(true) => lines = i + 1,
-            Ok(false) => break,
-            Err(wrong) => return Err(BadLine { line: i + 1, wrong }),
+    for (i, text) in text.split('\n').enumerate() {
+        let line = i + 1;
+        if !take_header(heap, &mut header, text).map_err(|wrong| BadLine { line, wrong })? {
+            break;
         }
+        lines = line;
     }
     Ok((header, lines))
 }

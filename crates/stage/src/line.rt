@@ -2,7 +2,7 @@
 use crate::element::Element;
 use crate::kalls::read_kall;
 use crate::number::number;
-use crate::script::{Buffer, Command};
+use crate::script::Command;
 use crate::wrong::Wrong;
 use model::kinds::{Form, Owner, Request};
 use std::alloc::Global;
@@ -12,72 +12,51 @@ pub(crate) enum Line<E> {
     Blank,
     SetUp(Command<E>),
     Open,
-    Asks(Request<E>, bool),
+    Asks(Request<E>),
     Reckon,
 }
 
 // The words before the colon, and those after it.
 fn cut<'w, 't>(words: &'w [&'t str]) -> (&'w [&'t str], Option<&'w [&'t str]>) {
-    for (i, word) in words.iter().enumerate() {
-        if *word == ":" {
-            return (&words[0..i], Some(&words[i + 1..]));
-        }
+    match words.iter().position(|word| *word == ":") {
+        Some(i) => (&words[..i], Some(&words[i + 1..])),
+        None => (words, None),
     }
-    (words, None)
 }
 
-fn read_buffer<E: Element>(heap: Global, words: Option<&[&str]>) -> Result<Buffer<E>, Wrong> {
-    let mut elements = Vec::new(heap);
-    for word in words.unwrap_or(&[]) {
-        elements.push(E::read(word)?)?;
-    }
-    Ok(Buffer {
-        elements,
-        colon: words.is_some(),
-    })
+fn read_buffer<E: Element>(heap: Global, words: Option<&[&str]>) -> Result<Option<Vec<E>>, Wrong> {
+    words
+        .map(|words| words.iter().map(|word| E::read(word)).try_collect(heap))
+        .transpose()
 }
 
 fn owner(whose: &str, n: &str) -> Result<Owner, Wrong> {
     match whose {
-        "process" => Ok(Owner::Process(number(n)?)),
-        "object" => Ok(Owner::Object(number(n)?)),
+        "process" => number(n).map(Owner::Process),
+        "object" => number(n).map(Owner::Object),
         _ => Err(Wrong::Form),
     }
 }
 
-fn plant<E>(owner: Owner, slot: &str, object: &str, code: &str) -> Result<Line<E>, Wrong> {
-    Ok(Line::SetUp(Command::Plant {
-        owner,
-        slot: number(slot)?,
-        object: number(object)?,
-        code: number(code)?,
-    }))
-}
-
-fn template<E>(owner: Owner, slot: &str, form: Form) -> Result<Line<E>, Wrong> {
-    Ok(Line::SetUp(Command::Template {
-        owner,
-        slot: number(slot)?,
-        form,
-    }))
-}
-
-fn form(code: &str, wanted: &str, check: &str, new: &str) -> Result<Form, Wrong> {
-    Ok(Form {
-        rights: number(code)?,
-        wanted: number(wanted)?,
-        check: number(check)?,
-        new: number(new)?,
-    })
-}
-
 // A line that fills a slot.
-fn read_filling<E>(words: &[&str]) -> Result<Line<E>, Wrong> {
+fn read_filling<E>(words: &[&str]) -> Result<Command<E>, Wrong> {
     match words {
-        ["plant", whose, n, slot, object, code] => plant(owner(whose, n)?, slot, object, code),
-        ["template", whose, n, slot, code, wanted, check, new] => {
-            template(owner(whose, n)?, slot, form(code, wanted, check, new)?)
-        }
+        ["plant", whose, n, slot, object, code] => Ok(Command::Plant {
+            owner: owner(whose, n)?,
+            slot: number(slot)?,
+            object: number(object)?,
+            code: number(code)?,
+        }),
+        ["template", whose, n, slot, code, wanted, check, new] => Ok(Command::Template {
+            owner: owner(whose, n)?,
+            slot: number(slot)?,
+            form: Form {
+                rights: number(code)?,
+                wanted: number(wanted)?,
+                check: number(check)?,
+                new: number(new)?,
+            },
+        }),
         _ => Err(Wrong::Form),
     }
 }
@@ -100,28 +79,25 @@ fn ask<E: Element>(
     heap: Global,
     words: &[&str],
     buffer: Option<&[&str]>,
-) -> Result<Line<E>, Wrong> {
-    let [process, name, ..] = words else {
+) -> Result<Request<E>, Wrong> {
+    let [process, name, arguments @ ..] = words else {
         return Err(Wrong::Form);
     };
-    let kall = read_kall(heap, name, &words[2..])?;
-    let process = number(process)?;
-    let Buffer { elements, colon } = read_buffer(heap, buffer)?;
-    let request = Request {
-        process,
+    let kall = read_kall(heap, name, arguments)?;
+    Ok(Request {
+        process: number(process)?,
         kall,
-        buffer: elements,
+        buffer: read_buffer(heap, buffer)?,
         answer: None,
-    };
-    Ok(Line::Asks(request, colon))
+    })
 }
 
 // A line that may end in a buffer.
 fn read_with_buffer<E: Element>(heap: Global, words: &[&str]) -> Result<Line<E>, Wrong> {
     let (words, buffer) = cut(words);
     match words {
-        ["make", kind, count] => Ok(Line::SetUp(make(heap, kind, count, buffer)?)),
-        _ => ask(heap, words, buffer),
+        ["make", kind, count] => make(heap, kind, count, buffer).map(Line::SetUp),
+        _ => ask(heap, words, buffer).map(Line::Asks),
     }
 }
 
@@ -132,7 +108,7 @@ pub(crate) fn read_line<E: Element>(heap: Global, words: &[&str]) -> Result<Line
         ["enrol"] => Ok(Line::SetUp(Command::Enrol)),
         ["open"] => Ok(Line::Open),
         ["reckon"] => Ok(Line::Reckon),
-        ["plant" | "template", ..] => read_filling(words),
+        ["plant" | "template", ..] => read_filling(words).map(Line::SetUp),
         _ => read_with_buffer(heap, words),
     }
 }

@@ -18,17 +18,16 @@ use crate::header::header;
 use crate::parse::parse;
 use crate::play::play_script;
 use crate::print::print_script;
-use crate::script::{ElementName, Header, RuleName, Script, ShelfName};
+use crate::script::{ElementName, Header, Script, ShelfName};
 use crate::wrong::Stop;
 use scene::opened::Reckoning;
 use shelf::cells::Cells;
 use shelf::packed::Packed;
 use shelf::rows::Rows;
+use shelf::traits::{LONGEST, PLACES};
 use std::io;
 use std::io::{BufWriter, Read, Write};
 use std::process::ExitCode;
-
-const CELLS: usize = 10240;
 
 fn print_out<E: Element>(
     rt: &HostRuntime,
@@ -49,10 +48,10 @@ fn play_over<E: Element>(
 ) -> Result<(), Stop> {
     let heap = rt.alloc();
     let mut script = parse::<E>(heap, text, lines)?;
-    let mut cells = vec![in heap; E::BLANK; CELLS]?;
-    let rule = header.rule.unwrap_or(RuleName::Bits);
+    let mut cells = vec![in heap; E::BLANK; PLACES * LONGEST]?;
+    let rule = header.rule.unwrap_or_default();
     let cells = Cells::counted(cells.as_mut_slice())?;
-    let reckoning = match header.shelf.unwrap_or(ShelfName::Rows) {
+    let reckoning = match header.shelf.unwrap_or_default() {
         ShelfName::Rows => play_script(rule, &mut Rows::new(cells), &mut script),
         ShelfName::Packed => play_script(rule, &mut Packed::new(cells), &mut script),
     };
@@ -69,7 +68,7 @@ fn play_input(rt: &HostRuntime) -> Result<(), Stop> {
     let text = whole.as_str();
     let text = text.strip_suffix('\n').unwrap_or(text);
     let (header, lines) = header(heap, text)?;
-    match header.element.unwrap_or(ElementName::Words) {
+    match header.element.unwrap_or_default() {
         ElementName::Words => play_over::<u16>(rt, header, text, lines),
         ElementName::Floats => play_over::<f32>(rt, header, text, lines),
     }

@@ -11,8 +11,5 @@ pub(crate) fn number(word: &str) -> Result<u32, Wrong>
     if word.starts_with('+') {
         return Err(Wrong::Number);
     }
-    match word.parse::<u32>() {
-        Ok(n) => Ok(n),
-        Err(_) => Err(Wrong::Number),
-    }
+    word.parse().map_err(|_| Wrong::Number)
 }

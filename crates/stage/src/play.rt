@@ -20,7 +20,7 @@ fn prepare<R: RightsRule, S: WritableShelf>(
             kind,
             count,
             buffer,
-        } => set_up.make(shelf, *kind, *count, buffer.elements.as_slice()),
+        } => set_up.make(shelf, *kind, *count, buffer.as_deref().unwrap_or(&[])),
         Command::Plant {
             owner,
             slot,
@@ -43,7 +43,7 @@ fn play_by<R: RightsRule + Drop, S: WritableShelf>(
     play(set_up, shelf, script.requests.as_mut_slice())
 }
 
-// Every answer is written into the script.
+// Every answer is written into the script. A rule is a type, so each name has a call.
 pub(crate) fn play_script<S: WritableShelf>(
     rule: RuleName,
     shelf: &mut S,

@@ -1,38 +1,35 @@
 // What a scene script says, once it is read.
 use model::kinds::{Form, Owner, Request};
 use model::signals::Fault;
+use std::fmt;
 
-#[derive(Clone, Copy)]
+#[derive(Clone, Copy, Default)]
 pub(crate) enum RuleName {
+    #[default]
     Bits,
     Steps,
 }
 
-#[derive(Clone, Copy)]
+#[derive(Clone, Copy, Default)]
 pub(crate) enum ShelfName {
+    #[default]
     Rows,
     Packed,
 }
 
-#[derive(Clone, Copy)]
+#[derive(Clone, Copy, Default)]
 pub(crate) enum ElementName {
+    #[default]
     Words,
     Floats,
 }
 
 // What the header lines chose; a line that is absent chose nothing.
-#[derive(Clone, Copy)]
+#[derive(Clone, Copy, Default)]
 pub(crate) struct Header {
     pub(crate) rule: Option<RuleName>,
     pub(crate) shelf: Option<ShelfName>,
     pub(crate) element: Option<ElementName>,
-}
-
-// The elements after a line's colon, and whether there was one.
-#[derive(Drop)]
-pub(crate) struct Buffer<E> {
-    pub(crate) elements: Vec<E>,
-    pub(crate) colon: bool,
 }
 
 #[derive(Drop)]
@@ -41,7 +38,7 @@ pub(crate) enum Command<E> {
     Make {
         kind: u32,
         count: u32,
-        buffer: Buffer<E>,
+        buffer: Option<Vec<E>>,
     },
     Plant {
         owner: Owner,
@@ -56,6 +53,17 @@ pub(crate) enum Command<E> {
     },
 }
 
+impl<E> fmt::Display for Command<E> {
+    fn fmt<W: fmt::Write>(&self, f: &mut fmt::Formatter<W>) -> fmt::Result {
+        f.write_str(match self {
+            Command::Enrol => "enrol",
+            Command::Make { .. } => "make",
+            Command::Plant { .. } => "plant",
+            Command::Template { .. } => "template",
+        })
+    }
+}
+
 // A command of the set-up; its answer comes with the playing.
 #[derive(Drop)]
 pub(crate) struct Step<E> {
@@ -63,10 +71,9 @@ pub(crate) struct Step<E> {
     pub(crate) answer: Option<Result<u32, Fault>>,
 }
 
-// The whole scene. `colons` says of each request whether a colon gave its buffer.
+// The whole scene.
 #[derive(Drop)]
 pub(crate) struct Script<E> {
     pub(crate) steps: Vec<Step<E>>,
     pub(crate) requests: Vec<Request<E>>,
-    pub(crate) colons: Vec<bool>,
 }

@@ -1,8 +1,12 @@
-use Rattle.std.proofs.Common.{ℕ, ◌+◌, sym, ap, ◌∙◌, arith}
+use Rattle.std.proofs.Common.{ℕ, ◌≡◌, ◌+◌, ◌++◌, List, take, drop, length, sym, refl, ap, ◌∙◌, arith}
+use Rattle.std.proofs.lemmas.List.{append-nil, drop_all}
 use Rattle.shelf.specs.Places.{element_at}
 use Rattle.reading.proofs.Parts.{element_answers, element_told}
 use Rattle.reading.proofs.Copying.{copied_more}
 use Rattle.reading.proofs.data.copy.Goals as goal
+
+pub loop-i-init : goal.loop-i-init
+loop-i-init g c = (refl, refl)
 
 pub unwrap-requires : goal.unwrap-requires
 unwrap-requires g c =
@@ -20,6 +24,17 @@ loop-i-preserved g c =
     let answer = sym c.unwrap.ensures ∙ c.element.ensures.answer ∙ ap (element_at c.args.place (i + 1)) same in
     let is = element_told c.args.place c.requires.place.0 c.requires.place.1 h c.unwrap.result i answer (omega arith) in (
       c.element.ensures.same ∙ same,
-      copied_more (h c.args.place) c.args.buffer.now c.loop-i.buffer c.args.start c.loop-i.i c.args.count c.unwrap.result
-          c.requires.there.0 c.requires.room c.loop-i-test.true is c.loop-i.invariant.1,
+      copied_more (h c.args.place) c.args.cells.now c.loop-i.cells c.args.start c.loop-i.i (length c.args.cells.now) c.unwrap.result
+          c.requires.there.0 (omega arith) c.loop-i-test.true is c.loop-i.invariant.1,
     )
+
+pub returns-clause-same : goal.returns-clause-same
+returns-clause-same g c = c.loop-i.invariant.0
+
+pub returns-clause-value : goal.returns-clause-value
+returns-clause-value g c =
+    let n = length c.args.cells.now in
+    let e : c.loop-i.i ≡ n = omega arith in
+    let part = drop c.args.start (g.S.ReadableShelf.holds c.args.shelf.now c.args.place) in
+    c.loop-i.invariant.1 ∙ ap (λ (i : ℕ). take i part ++ drop i c.args.cells.now) e
+    ∙ ap (λ (ys : List g.row.S-Element.Denot). take n part ++ ys) (drop_all n c.args.cells.now (omega arith)) ∙ append-nil (take n part)

@@ -1,4 +1,5 @@
-use Rattle.std.proofs.Common.{◌≡◌, ℕ, ◌-◌, min, List, ◌++◌, take, drop, ap, ◌∙◌, arith}
+use Rattle.std.proofs.Common.{◌≡◌, ℕ, ◌-◌, min, List, ◌++◌, length, take, drop, ap, ap₂, ◌∙◌, arith}
+use Rattle.std.proofs.lemmas.List.{length-take-le}
 use Rattle.scene.specs.Abstract.{elements_at, homes}
 use Rattle.reading.proofs.Copying.{block_read}
 use Rattle.reading.proofs.data.read_block.Goals as goal
@@ -13,12 +14,13 @@ returns g c =
     ap (λ (f : ℕ → List E). f c.in-Some.place) c.part_length-length.ensures.same ∙
     ap (elements_at h) c.in-Some.ensures.value
     in
+    let whole : length (take n c.args.buffer.now) ≡ n = length-take-le n c.args.buffer.now (omega arith) in
     record {
       same = c.copy.ensures.same ∙ c.part_length-length.ensures.same;
       value =
-          block_read part c.args.buffer.now c.copy.new.buffer c.args.disp c.args.knt n
+          block_read part c.args.buffer.now (c.copy.new.cells ++ drop n c.args.buffer.now) c.args.disp c.args.knt n
           (omega arith) (omega arith) (omega arith) (omega arith)
           (c.min-count.ensures ∙ ap (λ (m : ℕ). min c.args.knt (m - (c.args.disp - 1))) c.part_length-length.ensures.value)
-          (c.copy.ensures.value ∙ ap (λ (xs : List E). take n (drop (c.args.disp - 1) xs) ++ drop n c.args.buffer.now) lies);
+          (ap (λ (zs : List E). zs ++ drop n c.args.buffer.now) (c.copy.ensures.value ∙ ap₂ (λ (m : ℕ) (xs : List E). take m (drop (c.args.disp - 1) xs)) whole lies));
       bound = omega arith;
     }

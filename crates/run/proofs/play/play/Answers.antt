@@ -17,6 +17,7 @@ returns g c =
     c.serve_all.ensures.after ∙ ap (λ (t : Tables). afterwards rule (world t holds) asked) c.open-scene.ensures in
     record {
       answers = c.serve_all.ensures.answers ∙ ap (λ (t : Tables). played rule (world t holds) asked) c.open-scene.ensures;
+      given = c.serve_all.ensures.given;
       reckoned = c.reckon.ensures ∙ ap (λ (w : World g.row.S-Element.Denot). reckoning w.frame) after;
       shelved = (homes c.serve_all.new.scene.tables, λ n. ap (λ (w : World g.row.S-Element.Denot). w.elements n) after);
       isolated = isolates rule g.met.R.RightsRule.lawful (world up.tables holds) (record { objects = up.objects; held = up.held; listed = up.listed }) _;

@@ -1,13 +1,13 @@
-use Rattle.std.proofs.Common.{◌≡◌, ◌<◌, ◌≤◌, length, get_or, sym, refl, ◌∙◌, subst, arith}
+use Rattle.std.proofs.Common.{◌≡◌, ◌<◌, ◌≤◌, length, get_or, sym, refl, ap, ◌∙◌, subst, arith}
 use Rattle.scene.specs.Abstract.{world}
 use Rattle.model.specs.declared.kinds.Request.{Request}
 use Rattle.model.specs.Kalls.{serve}
-use Rattle.run.specs.Play.{ask, view, told}
-use Rattle.run.proofs.Playing.{after_more, played_more, after_end, played_end}
+use Rattle.run.specs.Play.{ask, view, has_buffer, told}
+use Rattle.run.proofs.Playing.{after_more, played_more, given_more, after_end, played_end}
 use Rattle.run.proofs.play.serve_all.Goals as goal
 
 pub loop-request-init : goal.loop-request-init
-loop-request-init g c = (refl, refl)
+loop-request-init g c = (refl, refl, refl)
 
 pub loop-request-preserved : goal.loop-request-preserved
 loop-request-preserved g c =
@@ -24,6 +24,7 @@ loop-request-preserved g c =
     let on : w' ≡ (serve r (ask q) w).world = subst (λ (y : Request g.row.S-Element.Denot). w' ≡ (serve r (ask y) w).world) got c.serve.ensures.after in (
       after_more r q x w w' on xs i within got ∙ c.loop-request.invariant.0,
       played_more r q x w w' on xs i within got did ∙ c.loop-request.invariant.1,
+      given_more q x (c.serve.ensures.given ∙ ap has_buffer got) xs i within got ∙ c.loop-request.invariant.2,
     )
 
 pub returns : goal.returns
@@ -31,5 +32,6 @@ returns g c =
     let past : length c.loop-request.requests ≤ c.loop-request.request-index = omega arith in
     record {
       answers = sym (played_end _ _ _ _ past) ∙ c.loop-request.invariant.1;
+      given = c.loop-request.invariant.2;
       after = sym (after_end _ _ _ _ past) ∙ c.loop-request.invariant.0;
     }

@@ -1,29 +1,35 @@
-use Rattle.std.proofs.Common.{◌≡◌, length, Err, refl, ap, rules}
-use Rattle.scene.proofs.Bodies.{object_none, object_some}
+use Rattle.std.proofs.Common.{◌≡◌, length, Err, sym, refl, ap, ◌∙◌, rules}
+use Rattle.std.proofs.lemmas.Result.{err_from_is_err_and}
+use Rattle.scene.proofs.Bodies.{lives_is}
 use Rattle.scene.proofs.Ending.{end_frame, end_homes, end_bounded, end_distinct}
 use Rattle.scene.proofs.tables.Tables.end.Goals as goal
 
-pub returns-in_default : goal.returns-in_default
-returns-in_default c = (rw (object_none c.args.self.now.objects c.args.self.now.slots c.args.name c.in_default.ensures.value) (ap Err c.new.ensures), refl, refl)
+pub returns-in_err-place : goal.returns-in_err-place
+returns-in_err-place c =
+    let t = c.args.self.now in
+    let long : length c.args.self.now.objects ≡ 160 = search rules in
+    let p = err_from_is_err_and c.from_residual.result c.from_residual.ensures.1 in
+    let none = c.in_err-place.ensures in
+    let gone = lives_is t.objects t.slots t.given t.processes c.args.name c.find.result long c.find.ensures.value ∙ sym none.variant in
+    let same : c.in_err-place.field-0.0 ≡ c.new.result = let q = rw none.ok_part at none.value in cc in
+    rw (p.1, p.2) (rw gone (ap Err (same ∙ c.new.ensures)), refl, refl)
 
 pub invariant_of-self : goal.invariant_of-self
 invariant_of-self c =
     let t = c.args.self.now in
     let long : length c.args.self.now.objects ≡ 160 = search rules in
-    let found = c.in-Some.ensures in
+    let found = sym c.in_ok-place.ensures.ok_part ∙ c.find.ensures.value in
     record {
-      bounded = end_bounded t.objects t.slots t.given c.args.name c.in-Some.place _ refl found.value t.distinct long found.within t.bounded;
-      distinct = end_distinct t.objects t.slots t.given c.args.name c.in-Some.place _ refl found.value t.distinct long found.within;
-      deep = t.deep;
-      shelved = t.shelved;
+      bounded = end_bounded t.objects c.args.name c.in_ok-place.place long found t.distinct t.given t.bounded;
+      distinct = end_distinct t.objects c.args.name c.in_ok-place.place long found t.distinct;
     }
 
 pub returns : goal.returns
 returns c =
     let t = c.args.self.now in
     let long : length c.args.self.now.objects ≡ 160 = search rules in
-    let found = c.in-Some.ensures in (
-      rw (object_some t.objects t.slots c.args.name c.in-Some.place found.value),
-      end_frame t.objects t.slots t.given c.args.name c.in-Some.place _ refl found.value t.distinct long found.within t.processes,
-      end_homes t.objects t.slots t.given c.args.name c.in-Some.place _ refl found.value t.distinct long found.within,
+    let found = sym c.in_ok-place.ensures.ok_part ∙ c.find.ensures.value in (
+      rw (lives_is t.objects t.slots t.given t.processes c.args.name _ long found),
+      end_frame t.objects c.args.name c.in_ok-place.place long found t.distinct t.slots t.given t.processes,
+      end_homes t.objects c.args.name c.in_ok-place.place long found t.distinct,
     )

@@ -1,17 +1,12 @@
-use Rattle.std.proofs.Common.{Ok, ap, ◌∙◌, arith}
-use Rattle.model.specs.Plan.{length_of, last_filled}
-use Rattle.scene.proofs.Spaces.{top_none, top_some}
+use Rattle.std.proofs.Common.{◌≡◌, Ok, option_map, ap, ◌∙◌, rules}
+use Rattle.std.specs.Option.{option_map_or}
+use Rattle.model.specs.Plan.{length_of, last_filled, spaces_of}
+use Rattle.scene.specs.Abstract.{process_of}
+use Rattle.scene.proofs.Processes.{top_is}
 use Rattle.scene.proofs.tables.Tables.length.Goals as goal
 
-pub returns-then-depth-eq0 : goal.returns-then-depth-eq0
-unfolding length_of last_filled
-returns-then-depth-eq0 c =
-    record { value = ap (λ l. Ok (last_filled l)) (top_none _ _ _ c.depth-depth.ensures.value c.if-depth-eq0.true); bound = omega arith }
-
-pub returns : goal.returns
+pub returns-clause-value : goal.returns-clause-value
 unfolding length_of
-returns c =
-    record {
-      value = ap Ok c.space_length.ensures.value ∙ ap (λ l. Ok (last_filled l)) (top_some _ _ _ c.depth-depth.ensures.value c.if-depth-eq0.false);
-      bound = c.space_length.ensures.bound;
-    }
+returns-clause-value c =
+    let mapped : c.map_or.result ≡ option_map_or (λ s. last_filled s.slots) (option_map (λ s. s.now) c.current.result) 0 = search rules in
+    ap Ok (mapped ∙ top_is _ (spaces_of (process_of c.args.self.now.processes c.args.process)) c.current.ensures)

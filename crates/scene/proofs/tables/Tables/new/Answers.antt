@@ -1,15 +1,15 @@
-use Rattle.std.proofs.Common.{refl, zero-le, le_trans}
-use Rattle.scene.proofs.Fresh.{fresh, shallow, shelved, bare_frame}
+use Rattle.std.proofs.Common.{◌≡◌, replicate, None, Option, ap, ◌∙◌, arith}
+use Rattle.std.proofs.lemmas.Grind.{common_steps}
+use Rattle.scene.specs.declared.kinds.Process.{Process}
+use Rattle.model.specs.declared.kinds.Slot.TheVariants.{Empty}
+use Rattle.scene.specs.Abstract.{frame_of}
+use Rattle.scene.proofs.Fresh.{fresh_bounded, fresh_distinct, bare_frame}
 use Rattle.scene.proofs.tables.Tables.new.Goals as goal
 
 pub invariant_of-result : goal.invariant_of-result
-invariant_of-result c =
-    record {
-      bounded = λ s i h k. le_trans (fresh 160 _ refl i) (zero-le {n = _});
-      distinct = λ s i j h. fresh 160 _ refl i;
-      deep = λ p. shallow 8 _ refl p;
-      shelved = λ p. shelved 8 _ refl p;
-    }
+invariant_of-result c = record { bounded = fresh_bounded (replicate 9 0); distinct = fresh_distinct }
 
-pub returns : goal.returns
-returns c = record { scene = bare_frame _ _ _ refl refl; slots = refl }
+pub returns-clause-scene : goal.returns-clause-scene
+returns-clause-scene c =
+    let nobody : c.from_fn.result ≡ replicate {A = Option Process} 8 None = grind (arith, common_steps) in
+    ap (frame_of (replicate 160 None) (replicate 1280 Empty) (replicate 9 0)) nobody ∙ bare_frame (replicate 1280 Empty)
