@@ -27,6 +27,8 @@ use Rattle.model.specs.Kalls.{
   kall_take,
   kall_store,
   appended,
+  carried,
+  fetched,
   appending,
   kall_delete,
   kall_interchange,
@@ -51,6 +53,7 @@ use Rattle.model.proofs.Views.{
   sound_held,
   sound_vacant,
   sound_walk,
+  Stands,
 }
 use Rattle.model.proofs.Edits.{AdmitsAll}
 
@@ -101,29 +104,38 @@ module _ {E : Type 0} (S : Setting) (b : Bool) (p : ℕ) (c : S.cast p ≡ b) wh
       harmless (Ok ys) = tt
       harmless (Err e) = tt
 
-  sound_load : (new : ℕ) (path : List ℕ) → Sound {E = E} S b (λ w. kall_load S.rule p new path w.frame) GoodPlain
-  sound_load new path =
+  sound_fetched : (ks ls rs : List ℕ) (new : ℕ) (path : List ℕ)
+      → Sound {E = E} S b (λ w. fetched S.rule p ks ls rs new path w.frame) (λ a. Stands S b ks ls a.1.site.holder a.1.clear × Fit S (level b a.1.clear) a.0)
+  sound_fetched ks ls rs new path =
       bind (sound_enter p c _ _) λ _ _.
       bind (sound_vacant p c _ _ here) λ _ _.
       bind (sound_walk p c _ _ path) λ t k.
       bind (sound_held p c _ _ _ k.place) λ s f.
-      pure (Ok _) ((tt, fit_loaded S b t.clear s f), tt)
+      pure (Ok _) (k, f)
+
+  sound_carried : (ks path : List ℕ) (cur : ℕ)
+      → Sound {E = E} S b (λ w. carried S.rule p ks path cur w.frame) (λ a. OwnAt S b a.1.holder × Fit S (level b true) a.0)
+  sound_carried ks path cur =
+      bind (sound_held p c _ _ _ here) λ s f.
+      bind (sound_walk p c _ _ path) λ t k.
+      bind (sound_vacant p c _ _ k.place) λ _ _.
+      pure (Ok _) (k.own tt tt, f)
+
+  sound_load : (new : ℕ) (path : List ℕ) → Sound {E = E} S b (λ w. kall_load S.rule p new path w.frame) GoodPlain
+  sound_load new path =
+      bind (sound_fetched _ _ _ new path) λ a h.
+      pure (Ok _) ((tt, fit_loaded S b a.1.clear a.0 h.1), tt)
 
   sound_pass : (path : List ℕ) (cur : ℕ) (mask : Option ℕ) → Sound {E = E} S b (λ w. kall_pass S.rule p path cur mask w.frame) GoodPlain
   sound_pass path cur mask =
       bind (sound_enter p c _ _) λ _ _.
-      bind (sound_held p c _ _ _ here) λ s f.
-      bind (sound_walk p c _ _ path) λ t k.
-      bind (sound_vacant p c _ _ k.place) λ _ _.
-      pure (Ok _) ((k.own tt tt, fit_moved S (level b true) mask s f), ((tt, tt), tt))
+      bind (sound_carried _ path cur) λ a h.
+      pure (Ok _) ((h.0, fit_moved S (level b true) mask a.0 h.1), ((tt, tt), tt))
 
   sound_take : (new : ℕ) (path : List ℕ) → Sound {E = E} S b (λ w. kall_take S.rule p new path w.frame) GoodPlain
   sound_take new path =
-      bind (sound_enter p c _ _) λ _ _.
-      bind (sound_vacant p c _ _ here) λ _ _.
-      bind (sound_walk p c _ _ path) λ t k.
-      bind (sound_held p c _ _ _ k.place) λ s f.
-      pure (Ok _) ((tt, fit_taken S b t.clear s f), ((k.own tt tt, tt), tt))
+      bind (sound_fetched _ _ _ new path) λ a h.
+      pure (Ok _) ((tt, fit_taken S b a.1.clear a.0 h.1), ((h.0.own tt tt, tt), tt))
 
   sound_store : (path : List ℕ) (cur : ℕ) (mask : Option ℕ) → Sound {E = E} S b (λ w. kall_store S.rule p path cur mask w.frame) GoodPlain
   sound_store path cur mask =
@@ -131,10 +143,8 @@ module _ {E : Type 0} (S : Setting) (b : Bool) (p : ℕ) (c : S.cast p ≡ b) wh
       branch (is_just cur path)
       (bind (sound_held p c _ _ _ here) λ s f.
       pure (Ok _) ((tt, fit_moved S (level b true) mask s f), tt))
-      (bind (sound_held p c _ _ _ here) λ s f.
-      bind (sound_walk p c _ _ path) λ t k.
-      bind (sound_vacant p c _ _ k.place) λ _ _.
-      pure (Ok _) ((k.own tt tt, fit_stored S (level b true) mask s f), tt))
+      (bind (sound_carried _ path cur) λ a h.
+      pure (Ok _) ((h.0, fit_stored S (level b true) mask a.0 h.1), tt))
 
   sound_appended : (ks path : List ℕ) (cur : ℕ) (mask : Option ℕ)
       → Sound {E = E} S b (λ w. appended S.rule p ks path cur mask w.frame) (λ a. OwnAt S b a.1.holder × Fit S (level b true) a.0)

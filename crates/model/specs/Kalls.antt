@@ -6,6 +6,7 @@ use Rattle.model.specs.declared.kinds.Slot.{Slot}
 use Rattle.model.specs.declared.kinds.Slot.TheVariants.{Empty, Capability, Template}
 use Rattle.model.specs.declared.kinds.Site.{Site}
 use Rattle.model.specs.declared.kinds.Space.{Space}
+use Rattle.model.specs.declared.kinds.Target.{Target}
 use Rattle.model.specs.declared.kinds.Change.{Change}
 use Rattle.model.specs.declared.kinds.Change.TheVariants.{Taken, Loaded, Moved, Stored}
 use Rattle.model.specs.declared.kinds.Holder.{Holder}
@@ -130,9 +131,9 @@ changed rule ch s = on_rights (recode rule ch) s
 abbrev pub is_just : ℕ → List ℕ → Bool
 is_just i path = length path == 1 && slice_index path 0 == i
 
--- what a slot must grant to leave the name space by the path
-abbrev pub leaving : List ℕ → List ℕ
-leaving path = cond (length path == 1) [] (envrts ∷ [])
+-- what a slot must grant to go where the path leads: a path of one index stays in the name space
+abbrev pub by_way : List ℕ → List ℕ → List ℕ → List ℕ
+by_way path near far = cond (length path == 1) near far
 
 -- the block of a data part that is asked for, to the part's end at most; `given` is the buffer's length
 abbrev pub block : {E : Type 0} → ℕ → ℕ → ℕ → List E → Result (List E) Fault
@@ -165,6 +166,23 @@ module _ (rule : Rule) (p : ℕ) where
     i ← next_slot c.name
     λ _. Ok (s, record { holder = Listed c.name; index = i; at = 0 })
 
+  -- a slot of the name space with the rights ks, and the empty site at the path's end that it goes to
+  abbrev pub carried : List ℕ → List ℕ → ℕ → Plan Frame (Slot × Site)
+  carried ks path cur = do
+    s ← held rule ks p Mine cur 0
+    t ← walk rule writing (storts ∷ mdfyrts ∷ []) p path
+    vacant p t.site.holder t.site.index t.site.at
+    λ _. Ok (s, t.site)
+
+  -- a slot at the path's end with the rights rs, and the target; the slot `new` of the name space is empty
+  abbrev pub fetched : List ℕ → List ℕ → List ℕ → ℕ → List ℕ → Plan Frame (Slot × Target)
+  fetched ks ls rs new path = do
+    enter rule p None (length path)
+    vacant p Mine new 0
+    t ← walk rule ks ls p path
+    s ← held rule rs p t.site.holder t.site.index t.site.at
+    λ _. Ok (s, t)
+
 module _ {E : Type 0} (rule : Rule) (p : ℕ) where
   abbrev pub done : ℤ → List (Edit E) → Plan Frame (Plain E)
   done v es = λ _. Ok (record { value = v; edits = es })
@@ -195,27 +213,19 @@ module _ {E : Type 0} (rule : Rule) (p : ℕ) where
 
   abbrev pub kall_load : ℕ → List ℕ → Plan Frame (Plain E)
   kall_load new path = do
-    enter rule p None (length path)
-    vacant p Mine new 0
-    t ← walk rule (loadrts ∷ []) (loadrts ∷ []) p path
-    s ← held rule [] p t.site.holder t.site.index t.site.at
-    done (pos 0) (put Mine new (changed rule (Loaded t.clear) s) ∷ [])
+    a ← fetched rule p (loadrts ∷ []) (loadrts ∷ []) [] new path
+    done (pos 0) (put Mine new (changed rule (Loaded a.1.clear) a.0) ∷ [])
 
   abbrev pub kall_pass : List ℕ → ℕ → Option ℕ → Plan Frame (Plain E)
   kall_pass path cur mask = do
     enter rule p mask (length path)
-    s ← held rule (dltrts ∷ leaving path) p Mine cur 0
-    t ← walk rule writing (storts ∷ mdfyrts ∷ []) p path
-    vacant p t.site.holder t.site.index t.site.at
-    done (pos 0) (put t.site.holder t.site.index (changed rule (Moved mask) s) ∷ put Mine cur Empty ∷ [])
+    a ← carried rule p (by_way path (dltrts ∷ []) (dltrts ∷ envrts ∷ [])) path cur
+    done (pos 0) (put a.1.holder a.1.index (changed rule (Moved mask) a.0) ∷ put Mine cur Empty ∷ [])
 
   abbrev pub kall_take : ℕ → List ℕ → Plan Frame (Plain E)
   kall_take new path = do
-    enter rule p None (length path)
-    vacant p Mine new 0
-    t ← walk rule writing (killrts ∷ loadrts ∷ mdfyrts ∷ []) p path
-    s ← held rule (dltrts ∷ []) p t.site.holder t.site.index t.site.at
-    done (pos 0) (put Mine new (changed rule (Taken t.clear) s) ∷ put t.site.holder t.site.index Empty ∷ [])
+    a ← fetched rule p writing (killrts ∷ loadrts ∷ mdfyrts ∷ []) (dltrts ∷ []) new path
+    done (pos 0) (put Mine new (changed rule (Taken a.1.clear) a.0) ∷ put a.1.site.holder a.1.site.index Empty ∷ [])
 
   -- in place, and elsewhere
   abbrev pub store_here : ℕ → Option ℕ → Plan Frame (Plain E)
@@ -225,10 +235,8 @@ module _ {E : Type 0} (rule : Rule) (p : ℕ) where
 
   abbrev pub store_there : List ℕ → ℕ → Option ℕ → Plan Frame (Plain E)
   store_there path cur mask = do
-    s ← held rule (leaving path) p Mine cur 0
-    t ← walk rule writing (storts ∷ mdfyrts ∷ []) p path
-    vacant p t.site.holder t.site.index t.site.at
-    done (pos 0) (put t.site.holder t.site.index (changed rule (Stored mask) s) ∷ [])
+    a ← carried rule p (by_way path [] (envrts ∷ [])) path cur
+    done (pos 0) (put a.1.holder a.1.index (changed rule (Stored mask) a.0) ∷ [])
 
   abbrev pub kall_store : List ℕ → ℕ → Option ℕ → Plan Frame (Plain E)
   kall_store path cur mask = do

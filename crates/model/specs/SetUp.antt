@@ -78,6 +78,12 @@ unfoldable pub owned : Owner → Plan Frame (Unit {0})
 owned (Process p) f = enrolled (f.process p)
 owned (Object n) f = living (house n) f
 
+-- a slot of the owner that is empty
+abbrev pub free : Owner → ℕ → Plan Frame (Unit {0})
+free o i = do
+  owned o
+  vacant (caller o) (holder o) i 0
+
 -- a slot of the owner is filled
 abbrev pub filling : Owner → ℕ → Slot → Frame → Result (Change Frame) Fault
 filling o i s f = Ok (record { value = 0; after = put_in (caller o) (holder o) (i - 1) s f })
@@ -85,8 +91,7 @@ filling o i s f = Ok (record { value = 0; after = put_in (caller o) (holder o) (
 -- PLANT: a capability for a house object
 abbrev pub plant : Rule → Owner → ℕ → ℕ → ℕ → Plan Frame (Change Frame)
 plant rule o i n code = do
-  owned o
-  vacant (caller o) (holder o) i 0
+  free o i
   living (house n)
   λ f. code_ok rule code
   filling o i (Capability (record { name = house n; rights = code }))
@@ -100,8 +105,7 @@ codes_ok rule t = after (code_ok rule t.rights) λ _. after (code_ok rule t.chec
 
 abbrev pub template : Rule → Owner → ℕ → Form → Plan Frame (Change Frame)
 template rule o i t = do
-  owned o
-  vacant (caller o) (holder o) i 0
+  free o i
   λ f. wanted_ok t.wanted
   λ f. codes_ok rule t
   filling o i (Template t)

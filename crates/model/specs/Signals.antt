@@ -1,4 +1,4 @@
--- The signals: the number and the layer of each.
+-- The signals: the number, the layer and the name of each, and what a fault prints.
 use Rattle.std.specs.Prelude.{ℕ, ℤ, negsuc, List, ◌++◌, codes}
 use Rattle.std.specs.Fmt.{decimal, signed_decimal}
 use Rattle.model.specs.declared.signals.Signal.{Signal}
@@ -92,13 +92,14 @@ name Schk = codes "SCHK"
 name Svalue = codes "SVALUE"
 name Smask = codes "SMASK"
 
-abbrev pub depth : Layer → ℕ
-depth Process = 1
-depth Path = 2
-depth Object = 3
-depth Shelf = 4
+-- layers are numbered from the caller down
+abbrev pub layer_number : Layer → ℕ
+layer_number Process = 1
+layer_number Path = 2
+layer_number Object = 3
+layer_number Shelf = 4
 
 -- a refusal as it is printed: number, name, detail and layer
 abbrev pub text : Fault → List ℕ
 text f =
-    signed_decimal (number f.signal) ++ codes " " ++ name f.signal ++ codes " detail " ++ decimal f.detail ++ codes " layer " ++ decimal (depth f.layer)
+    signed_decimal (number f.signal) ++ codes " " ++ name f.signal ++ codes " detail " ++ decimal f.detail ++ codes " layer " ++ decimal (layer_number f.layer)

@@ -6,13 +6,13 @@ use crate::signals::Fault;
 use std::fmt;
 
 // An object's name: the share that it was made in, and its number there.
-#[derive(Clone, Copy, Debug, PartialEq, Eq)]
+#[derive(Clone, Copy, PartialEq, Eq)]
 pub struct Name {
     pub share: u32,
     pub number: u32,
 }
 
-#[derive(Clone, Copy, Debug, PartialEq, Eq)]
+#[derive(Clone, Copy, PartialEq, Eq)]
 pub struct Cap {
     pub name: Name,
     pub rights: u32,
@@ -20,7 +20,7 @@ pub struct Cap {
 
 // What a template says: its own rights code, the type wanted (0 for any), the
 // rights that an argument must have, and those that it gets.
-#[derive(Clone, Copy, Debug, PartialEq, Eq)]
+#[derive(Clone, Copy, PartialEq, Eq)]
 pub struct Form {
     pub rights: u32,
     pub wanted: u32,
@@ -28,7 +28,7 @@ pub struct Form {
     pub new: u32,
 }
 
-#[derive(Clone, Copy, Debug, Default, PartialEq, Eq)]
+#[derive(Clone, Copy, Default, PartialEq, Eq)]
 pub enum Slot {
     #[default]
     Empty,
@@ -46,7 +46,7 @@ pub struct Space {
 }
 
 // Whose slots: the process's current name space, or the list of an object.
-#[derive(Clone, Copy, Debug, PartialEq, Eq)]
+#[derive(Clone, Copy, PartialEq, Eq)]
 pub enum Holder {
     Mine,
     Listed(Name),

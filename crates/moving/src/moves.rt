@@ -1,6 +1,6 @@
 // The kalls that move a slot and leave its old place empty, or change two about.
 // Each is shown the slip and lent the shelf: in one struct the two loans would want
-// two clauses more of every contract. What is done is answered by 0.
+// two clauses more of every contract. Success is 0.
 ghost use Rattle.std.specs.Prelude.{◌≡◌};
 ghost use Rattle.model.specs.Kalls.{kall_pass, kall_take, kall_delete, kall_interchange};
 ghost use Rattle.scene.specs.Abstract.{Does};
@@ -8,6 +8,7 @@ ghost use Rattle.scene.specs.Abstract.{Does};
 use model::kinds::{Change, EMPTY, Site, Target};
 use model::rights::{DLTRTS, ENVRTS, KILLRTS, LOADRTS, MDFYRTS, STORTS};
 use model::signals::Fault;
+use paths::carry::{carried, fetched};
 use paths::recode::changed;
 use paths::slots::{enter, held};
 use paths::walk::{WRITING, by_way, walk};
@@ -28,18 +29,11 @@ pub fn pass<R: RightsRule, S: ReadableShelf>(
     ensures { Does process (kall_pass R.RightsRule.rule process path.now cur mask) scene.old.tables (S.ReadableShelf.holds _shelf.old) scene.new.tables (S.ReadableShelf.holds _shelf.new) result }
 {
     enter(scene, process, mask, path.len())?;
-    let own = Site::own(cur);
-    let slot = held(
-        scene,
-        by_way(path, &[DLTRTS], &[DLTRTS, ENVRTS]),
-        process,
-        own,
-    )?;
-    let Target { site, .. } = walk(scene, &WRITING, &[STORTS, MDFYRTS], process, path)?;
-    scene.tables.vacant(process, site)?;
+    let rights = by_way(path, &[DLTRTS], &[DLTRTS, ENVRTS]);
+    let (slot, site) = carried(scene, rights, process, path, cur)?;
     let moved = changed(&scene.rule, Change::Moved { mask }, slot);
     scene.tables.put_in(process, site, moved);
-    scene.tables.put_in(process, own, EMPTY);
+    scene.tables.put_in(process, Site::own(cur), EMPTY);
     Ok(0)
 }
 
@@ -54,19 +48,11 @@ pub fn take<R: RightsRule, S: ReadableShelf>(
 ) -> Result<i32, Fault>
     ensures { Does process (kall_take R.RightsRule.rule process new path.now) scene.old.tables (S.ReadableShelf.holds _shelf.old) scene.new.tables (S.ReadableShelf.holds _shelf.new) result }
 {
-    enter(scene, process, None, path.len())?;
-    let here = Site::own(new);
-    scene.tables.vacant(process, here)?;
-    let Target { site, clear } = walk(
-        scene,
-        &WRITING,
-        &[KILLRTS, LOADRTS, MDFYRTS],
-        process,
-        path,
-    )?;
-    let slot = held(scene, &[DLTRTS], process, site)?;
+    let last = [KILLRTS, LOADRTS, MDFYRTS];
+    let (slot, target) = fetched(scene, &WRITING, &last, &[DLTRTS], process, new, path)?;
+    let Target { site, clear } = target;
     let taken = changed(&scene.rule, Change::Taken { clear }, slot);
-    scene.tables.put_in(process, here, taken);
+    scene.tables.put_in(process, Site::own(new), taken);
     scene.tables.put_in(process, site, EMPTY);
     Ok(0)
 }

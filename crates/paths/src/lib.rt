@@ -1,5 +1,6 @@
 #![tactic(auto)]
 
+pub mod carry;
 pub mod grants;
 pub mod recode;
 pub mod slots;

@@ -21,10 +21,11 @@ fn mask_ok<R: RightsRule>(rule: &R, mask: Option<u32>) -> Result<(), Fault>
 pub(crate) fn path_ok(length: usize) -> Result<(), Fault>
     ensures { result ≡ path_ok length }
 {
-    if length == 0 || length > 6 {
-        return Err(Fault::new(Signal::Spath, 0));
+    if (1..=6).contains(&length) {
+        Ok(())
+    } else {
+        Err(Fault::new(Signal::Spath, 0))
     }
-    Ok(())
 }
 
 // What every kall with a path checks first.

@@ -1,5 +1,6 @@
 // Following a path.
-ghost use Rattle.std.specs.Prelude.{◌≡◌, ◌==◌, cond, drop, length};
+ghost use Rattle.std.specs.Prelude.{◌≡◌, drop};
+ghost use Rattle.model.specs.Kalls.{by_way};
 ghost use Rattle.model.specs.Plan.{asked_of, walk};
 ghost use Rattle.scene.specs.Abstract.{frame};
 
@@ -10,13 +11,16 @@ use model::signals::{Fault, Signal};
 use rights::rule::RightsRule;
 use scene::opened::Scene;
 
-// What a writing walk wants of its steps, and of its pretarget where nothing else is named.
+// What a reading walk and a writing walk want of their steps, and of their pretarget where
+// nothing else is named.
+pub const READING: [u8; 1] = [LOADRTS];
+
 pub const WRITING: [u8; 2] = [LOADRTS, UCNFRTS];
 
 // What is asked of a slot by the way that it takes: a path of one index stays in the
 // name space.
 pub fn by_way<'a>(path: &[u32], near: &'a [u8], far: &'a [u8]) -> &'a [u8]
-    ensures { result.now ≡ cond (length path.now == 1) near.now far.now }
+    ensures { result.now ≡ by_way path.now near.now far.now }
 {
     if path.len() == 1 { near } else { far }
 }

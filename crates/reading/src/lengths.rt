@@ -10,7 +10,7 @@ use model::kinds::Cap;
 use model::rights::{GETRTS, LOADRTS};
 use model::signals::Fault;
 use paths::slots::{enter, object_at};
-use paths::walk::walk;
+use paths::walk::{READING, walk};
 use rights::rule::RightsRule;
 use scene::opened::{Scene, Slip};
 use shelf::traits::ReadableShelf;
@@ -25,7 +25,7 @@ pub(crate) fn read_at<R: RightsRule>(
     ensures { result ≡ read_at R.RightsRule.rule process right path.now (frame scene.now.tables) }
 {
     enter(scene, process, None, path.len())?;
-    let target = walk(scene, &[LOADRTS], &[LOADRTS], process, path)?;
+    let target = walk(scene, &READING, &READING, process, path)?;
     object_at(scene, &[right], process, target.site)
 }
 

@@ -4,11 +4,10 @@ ghost use Rattle.model.specs.Kalls.{kall_load};
 ghost use Rattle.scene.specs.Abstract.{Does};
 
 use model::kinds::{Change, Site, Target};
-use model::rights::LOADRTS;
 use model::signals::Fault;
+use paths::carry::fetched;
 use paths::recode::changed;
-use paths::slots::{enter, held};
-use paths::walk::walk;
+use paths::walk::READING;
 use rights::rule::RightsRule;
 use scene::opened::{Scene, Slip};
 use shelf::traits::ReadableShelf;
@@ -23,12 +22,8 @@ pub fn load<R: RightsRule, S: ReadableShelf>(
 ) -> Result<i32, Fault>
     ensures { Does process (kall_load R.RightsRule.rule process new path.now) scene.old.tables (S.ReadableShelf.holds _shelf.old) scene.new.tables (S.ReadableShelf.holds _shelf.new) result }
 {
-    enter(scene, process, None, path.len())?;
-    let here = Site::own(new);
-    scene.tables.vacant(process, here)?;
-    let Target { site, clear } = walk(scene, &[LOADRTS], &[LOADRTS], process, path)?;
-    let slot = held(scene, &[], process, site)?;
+    let (slot, Target { clear, .. }) = fetched(scene, &READING, &READING, &[], process, new, path)?;
     let copy = changed(&scene.rule, Change::Loaded { clear }, slot);
-    scene.tables.put_in(process, here, copy);
+    scene.tables.put_in(process, Site::own(new), copy);
     Ok(0)
 }

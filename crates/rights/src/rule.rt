@@ -33,7 +33,7 @@ pub trait RightsRule {
 
     ghost invalid: { InvalidAsZero rule };
 
-    // A code that a request names must be valid.
+    // A code that someone gives must be valid.
     final fn check(&self, code: u32) -> Result<(), Fault>
         ensures { result ≡ code_ok rule code }
     {

@@ -18,7 +18,7 @@ use scene::setup::SetUp;
 use shelf::traits::WritableShelf;
 use storing::stores::{append, passappend, store};
 
-// A match, since each kind of kall has arguments of its own.
+// Each kind of kall has arguments of its own.
 fn perform<R: RightsRule, S: WritableShelf>(
     scene: &mut Scene<R>,
     slip: &Slip,
@@ -70,6 +70,7 @@ pub fn serve<R: RightsRule, S: WritableShelf>(
 {
     let process = request.process;
     let kall = &request.kall;
+    // Two calls: a `&mut []` chosen beside a lent buffer gets no proof.
     let answer = match &mut request.buffer {
         Some(buffer) => perform(scene, slip, shelf, process, kall, buffer.as_mut_slice()),
         None => perform(scene, slip, shelf, process, kall, &mut []),

@@ -7,7 +7,7 @@ use arrayvec::ArrayVec;
 use model::kinds::{Slot, Space};
 
 // The object at a place.
-#[derive(Clone, Copy, Debug, PartialEq, Eq)]
+#[derive(Clone, Copy, PartialEq, Eq)]
 pub struct Object {
     pub number: u32,
     pub kind: u32,
@@ -21,14 +21,14 @@ pub(crate) struct Body<'a> {
     ghost eight: { length list.now ≡ 8 },
 }
 
-#[derive(Clone, Copy, Debug, PartialEq, Eq)]
+#[derive(Clone, Copy, PartialEq, Eq)]
 pub enum State {
     Running,
     Stopped,
 }
 
 // A process, with its name spaces from the oldest on.
-#[derive(Drop)]
+#[derive(Clone, Drop)]
 pub struct Process {
     pub state: State,
     pub spaces: ArrayVec<Space, 6>,

@@ -1,5 +1,5 @@
-// What an object's type allows it. A type is a number and no enum, since a request may
-// name any, and those from 16 to 255 are the user's.
+// What an object's type allows it. A type is a number and no enum, since set-up may name
+// any, and those from 16 to 255 are the user's.
 ghost use Rattle.std.specs.Prelude.{◌≡◌, ◌≤◌};
 ghost use Rattle.model.specs.Plan.{limits, room};
 
@@ -25,7 +25,7 @@ pub fn limits(kind: u32) -> Result<Limits, Fault>
             slots: 8,
             elements: 0,
         }),
-        2 | 16..=255 => Ok(Limits {
+        UNIVERSAL | 16..=255 => Ok(Limits {
             slots: 8,
             elements: 64,
         }),
@@ -33,7 +33,7 @@ pub fn limits(kind: u32) -> Result<Limits, Fault>
     }
 }
 
-// The slots of an object's list.
+// How many slots an object's list has.
 pub(crate) fn room(kind: u32) -> usize
     ensures value { result ≡ room kind }
     ensures bound { result ≤ 8 }

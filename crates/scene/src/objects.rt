@@ -26,7 +26,7 @@ fn base(share: u32) -> usize
 }
 
 // The index of the last filled slot.
-fn last(slots: &[Slot]) -> Option<usize>
+fn last_index(slots: &[Slot]) -> Option<usize>
     ensures { IsLastFilled slots.now result }
 {
     slots.iter().rposition(|slot| *slot != Slot::Empty)
@@ -37,7 +37,7 @@ fn last_filled(slots: &[Slot]) -> usize
     ensures value { result ≡ last_filled slots.now }
     ensures bound { result ≤ length slots.now }
 {
-    last(slots).map_or(0, |index| index + 1)
+    last_index(slots).map_or(0, |index| index + 1)
 }
 
 // The first of the places that is unused.
@@ -300,7 +300,7 @@ impl Tables {
         }
     }
 
-    // A slot is put; there is none at index 0 and past the end.
+    // A slot is put, index 0 counting as 1; past the end nothing is.
     pub fn put_in(&mut self, process: u32, site: Site, slot: Slot)
         ensures after { frame self.new ≡ put_in process site.holder (site.index - 1) slot (frame self.old) }
         ensures homes { homes self.new ≡ homes self.old }

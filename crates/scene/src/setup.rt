@@ -1,7 +1,7 @@
 // A scene is set up: processes are enrolled, house objects made, slots planted.
 ghost use Rattle.std.specs.Prelude.{◌≡◌, replicate};
 ghost use Rattle.model.specs.declared.kinds.Slot.TheVariants.{Empty};
-ghost use Rattle.model.specs.SetUp.{HouseObjects, HouseHeld, HouseListed, SetsAll, bare, enrol, furnish, fits, plant, template, house, holder, caller, wanted_ok, codes_ok};
+ghost use Rattle.model.specs.SetUp.{HouseObjects, HouseHeld, HouseListed, SetsAll, bare, enrol, furnish, fits, plant, template, house, holder, caller, free, wanted_ok, codes_ok};
 ghost use Rattle.scene.specs.Abstract.{frame, world, Steps};
 
 use crate::fill::create;
@@ -49,6 +49,14 @@ fn site(owner: Owner, index: u32) -> Site
             at: 0,
         },
     }
+}
+
+// The owner's slot is there, and empty.
+fn free(tables: &Tables, owner: Owner, slot: u32) -> Result<(), Fault>
+    ensures { result ≡ free owner slot (frame tables.now) }
+{
+    tables.owned(owner)?;
+    tables.vacant(caller(owner), site(owner, slot))
 }
 
 fn fits(count: u32, given: usize, limits: Limits) -> Result<(), Fault>
@@ -111,12 +119,11 @@ impl<R: RightsRule> SetUp<R> {
         create(&mut self.tables, shelf, 0, kind, &buffer[..count as usize])
     }
 
-    // A capability for a house object in an empty slot; what is done is answered by 0.
+    // A capability for a house object in an empty slot; success is 0.
     pub fn plant(&mut self, owner: Owner, slot: u32, object: u32, code: u32) -> Result<u32, Fault>
         ensures { Steps self.old.tables self.new.tables result (plant R.RightsRule.rule owner slot object code) }
     {
-        self.tables.owned(owner)?;
-        self.tables.vacant(caller(owner), site(owner, slot))?;
+        free(&self.tables, owner, slot)?;
         self.tables.alive(house(object))?;
         self.rule.check(code)?;
         let cap = Slot::Capability(Cap {
@@ -127,12 +134,11 @@ impl<R: RightsRule> SetUp<R> {
         Ok(0)
     }
 
-    // A template in an empty slot; what is done is answered by 0.
+    // A template in an empty slot; success is 0.
     pub fn template(&mut self, owner: Owner, slot: u32, form: Form) -> Result<u32, Fault>
         ensures { Steps self.old.tables self.new.tables result (template R.RightsRule.rule owner slot form) }
     {
-        self.tables.owned(owner)?;
-        self.tables.vacant(caller(owner), site(owner, slot))?;
+        free(&self.tables, owner, slot)?;
         wanted_ok(form.wanted)?;
         codes_ok(&self.rule, form)?;
         self.tables

@@ -5,7 +5,7 @@ use model::kinds::Slot;
 
 // Share 0 has the places 0 to 31, share s the 16 from 16 + 16 s on; the list of the
 // object at a place is the eight slots from eight times the place on. Processes go
-// by 1 to 8. The slots stand beside the objects, all of them empty at first.
+// by 1 to 8. All slots are one table, empty at first.
 #[derive(Drop)]
 pub struct Tables {
     pub objects: [Option<Object>; 160],

@@ -4,6 +4,8 @@ ghost use Rattle.std.specs.Result.{result_map_both};
 ghost use Rattle.shelf.specs.Places.{most, counted};
 
 use crate::lengths::refusal;
+pub use crate::packed::Packed;
+pub use crate::rows::Rows;
 use crate::traits::{LONGEST, PLACES};
 use model::signals::Fault;
 

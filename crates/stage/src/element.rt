@@ -3,7 +3,7 @@ use crate::number::number;
 use crate::wrong::Wrong;
 use std::fmt::Display;
 
-pub(crate) trait Element: Copy + Clone + Display {
+pub(crate) trait Element: Copy + Display {
     const BLANK: Self;
 
     // Not `FromStr`: that of `u16` and `f32` takes more words.

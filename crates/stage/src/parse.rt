@@ -16,8 +16,10 @@ enum Part {
 
 impl Part {
     fn expect(self, part: Part) -> Result<(), Wrong> {
+        if self == part {
+            return Ok(());
+        }
         match self {
-            _ if self == part => Ok(()),
             Part::SetUp => Err(Wrong::BeforeOpen),
             Part::Opened => Err(Wrong::AfterOpen),
             Part::Reckoned => Err(Wrong::AfterReckon),

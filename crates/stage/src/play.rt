@@ -43,7 +43,7 @@ fn play_by<R: RightsRule + Drop, S: WritableShelf>(
     play(set_up, shelf, script.requests.as_mut_slice())
 }
 
-// Every answer is written into the script. A rule is a type, so each name has a call.
+// Every answer is written into the script. A rule is a type, so each name calls another function.
 pub(crate) fn play_script<S: WritableShelf>(
     rule: RuleName,
     shelf: &mut S,

@@ -21,13 +21,18 @@ impl<T: Display + Copy> Display for Shown<T> {
     }
 }
 
+fn print_all<T: Display, W: Write>(out: &mut W, items: &[T]) -> io::Result<()> {
+    for item in items {
+        write!(out, " {item}")?;
+    }
+    Ok(())
+}
+
 // The end of a line, after the buffer that a colon gave.
 fn print_buffer<E: Display, W: Write>(out: &mut W, buffer: Option<&[E]>) -> io::Result<()> {
     if let Some(elements) = buffer {
         write!(out, " :")?;
-        for element in elements {
-            write!(out, " {element}")?;
-        }
+        print_all(out, elements)?;
     }
     writeln!(out)
 }
@@ -56,9 +61,7 @@ fn print_request<E: Display, W: Write>(out: &mut W, request: &Request<E>) -> io:
 
 fn print_reckoning<W: Write>(out: &mut W, reckoning: &Reckoning) -> io::Result<()> {
     write!(out, "reckon:")?;
-    for count in reckoning.living.iter() {
-        write!(out, " {count}")?;
-    }
+    print_all(out, &reckoning.living)?;
     writeln!(out)
 }
 

@@ -1,13 +1,14 @@
 // The kalls that put a slot of the name space elsewhere, or restrict it in place.
 // Each is shown the slip and lent the shelf: in one struct the two loans would want
-// two clauses more of every contract. What is done is answered by 0.
+// two clauses more of every contract. Success is 0.
 ghost use Rattle.std.specs.Prelude.{◌≡◌};
 ghost use Rattle.model.specs.Kalls.{is_just, appended, kall_store, kall_append, kall_passappend};
 ghost use Rattle.scene.specs.Abstract.{frame, Does};
 
 use model::kinds::{Change, EMPTY, Holder, Site, Slot};
-use model::rights::{APPRTS, DLTRTS, ENVRTS, MDFYRTS, STORTS};
+use model::rights::{APPRTS, DLTRTS, ENVRTS, MDFYRTS};
 use model::signals::Fault;
+use paths::carry::carried;
 use paths::recode::changed;
 use paths::slots::{enter, held, object_at};
 use paths::walk::{WRITING, by_way, walk};
@@ -42,11 +43,10 @@ pub fn store<R: RightsRule, S: ReadableShelf>(
         scene.tables.put_in(process, own, less);
         return Ok(0);
     }
-    let slot = held(scene, by_way(path, &[], &[ENVRTS]), process, own)?;
-    let target = walk(scene, &WRITING, &[STORTS, MDFYRTS], process, path)?;
-    scene.tables.vacant(process, target.site)?;
+    let rights = by_way(path, &[], &[ENVRTS]);
+    let (slot, site) = carried(scene, rights, process, path, cur)?;
     let copy = changed(&scene.rule, Change::Stored { mask }, slot);
-    scene.tables.put_in(process, target.site, copy);
+    scene.tables.put_in(process, site, copy);
     Ok(0)
 }
 

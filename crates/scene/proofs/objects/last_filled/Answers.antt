@@ -5,5 +5,5 @@ use Rattle.scene.proofs.objects.last_filled.Goals as goal
 
 pub returns-clause-value : goal.returns-clause-value
 returns-clause-value c =
-    let mapped : c.map_or.result ≡ option_map_or (λ i. i + 1) c.last.result 0 = search rules in
-    mapped ∙ sym (last_is _ _ c.last.ensures)
+    let mapped : c.map_or.result ≡ option_map_or (λ i. i + 1) c.last_index.result 0 = search rules in
+    mapped ∙ sym (last_is _ _ c.last_index.ensures)
