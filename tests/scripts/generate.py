@@ -1,6 +1,5 @@
 #!/usr/bin/env python3
-"""Writes the scripts played/every-*.scene, played/alias-*.scene and played/mixed-*.scene with
-the output that they must have. What they must print comes from the model of the rules below,
+"""Writes the scripts every-*, alias-*, rooms-* and mixed-* of played/ with the output that they must have. What they must print comes from the model of the rules below,
 which is written from docs/RULES.md and docs/SCRIPT.md and shares nothing with the kernel.
 
     python3 generate.py            writes them
@@ -15,7 +14,7 @@ LAYERS = {1: "SPROC SSTOP SDEPTH SVALUE", 2: "SPATH SINDEX SNULL STEMPL SGONE SR
           3: "STYPE SROOM SNAMES SARGS SCHK SMASK", 4: "SLIM"}
 NUMBERS = ("SPROC SSTOP SPATH SINDEX SNULL STEMPL SGONE SRTS STYPE SFULL SLIM SROOM SNAMES "
            "SDEPTH SARGS SCHK SVALUE SMASK").split()
-DLT, ENV, LOAD, STO, APP, KILL, GET, PUT, ADDR, MDFY, UCNF = range(11)
+DLT, ENV, LOAD, STO, APP, KILL, GET, PUT, ADDR, MDFY, UCNF, CALL, ERASE = range(13)
 
 
 class Refused(Exception):
@@ -42,7 +41,7 @@ class Bits:
 
 class Steps:
     name, full, invalid = "steps", 3, 4
-    FIRST = {DLT: 0, ENV: 3, 12: 3, LOAD: 1, GET: 1, 11: 1, **{r: 1 for r in range(13, 21)}}
+    FIRST = {DLT: 0, ENV: 3, ERASE: 3, LOAD: 1, GET: 1, CALL: 1, **{r: 1 for r in range(13, 21)}}
 
     def valid(self, code): return code < 4
     def read(self, code): return code if self.valid(code) else 0
@@ -64,10 +63,25 @@ class Template:
 
 
 class Scene:
-    """A scene of the house's objects and of processes with one name space each."""
+    """A scene of objects, by share and number, and of processes with one name space each."""
 
     def __init__(self, rule):
-        self.rule, self.lists, self.data, self.spaces = rule, {}, {}, {}
+        self.rule, self.kinds, self.lists, self.data, self.spaces = rule, {}, {}, {}, {}
+        self.given = [0] * 9
+
+    def living(self, share):
+        return sum(1 for s, _ in self.kinds if s == share)
+
+    # A new object of a share.
+    def create(self, share, kind, data):
+        if self.living(share) == (32 if share == 0 else 16):
+            raise Refused("SROOM")
+        if self.given[share] == 60000:
+            raise Refused("SNAMES")
+        self.given[share] += 1
+        name = share, self.given[share]
+        self.kinds[name], self.lists[name], self.data[name] = kind, [None] * (0 if kind == 1 else 8), data
+        return name
 
     # set-up
     def enrol(self):
@@ -82,21 +96,16 @@ class Scene:
             raise Refused("STYPE")
         if count > (0 if kind == 3 else 64) or count > len(buffer):
             raise Refused("SLIM")
-        if len(self.lists) == 32:
-            raise Refused("SROOM")
-        number = len(self.lists) + 1
-        self.lists[number] = [None] * (0 if kind == 1 else 8)
-        self.data[number] = list(buffer[:count])
-        return number
+        return self.create(0, kind, list(buffer[:count]))[1]
 
     def owned(self, owner, n):
         if owner == "process":
             if n not in self.spaces:
                 raise Refused("SPROC")
             return self.spaces[n]
-        if n not in self.lists:
+        if (0, n) not in self.kinds:
             raise Refused("SGONE")
-        return self.lists[n]
+        return self.lists[0, n]
 
     def fill(self, owner, n, slot, what, check):
         slots = self.owned(owner, n)
@@ -110,11 +119,11 @@ class Scene:
 
     def plant(self, owner, n, slot, name, code):
         def check():
-            if name not in self.lists:
+            if (0, name) not in self.kinds:
                 raise Refused("SGONE")
             if not self.rule.valid(code):
                 raise Refused("SMASK")
-        return self.fill(owner, n, slot, Cap(name, code), check)
+        return self.fill(owner, n, slot, Cap((0, name), code), check)
 
     def template(self, owner, n, slot, code, kind, wants, gives):
         def check():
@@ -148,6 +157,8 @@ class Scene:
             raise Refused("SNULL", at)
         if isinstance(found, Template):
             raise Refused("STEMPL", at)
+        if found.name not in self.kinds:
+            raise Refused("SGONE", at)
         if not all(self.rule.grants(found.code, r) for r in rights):
             raise Refused("SRTS", at)
         return found
@@ -283,13 +294,55 @@ class Scene:
         return 0
 
 
+    def making(self, p, kind, path, mask, data):
+        self.begin(p, path, mask)
+        slots, _ = self.walk(p, path, [LOAD, UCNF], [STO, MDFY])
+        self.empty(slots, path[-1], len(path))
+        if data is None:
+            raise Refused("SLIM")
+        name = self.create(p, kind, data)
+        slots[path[-1] - 1] = Cap(name, self.masked(self.rule.full, mask))
+        return 0
+
+    def DATA(self, p, path, knt, mask, buffer):
+        return self.making(p, 1, path, mask, None if knt > min(64, len(buffer)) else buffer[:knt])
+
+    def UNIV(self, p, path):
+        return self.making(p, 2, path, None, [])
+
+    def written(self, p, path, right):
+        self.begin(p, path)
+        slots, _ = self.walk(p, path, [LOAD, UCNF], [LOAD, UCNF])
+        return self.object(slots, path[-1], [right, MDFY], len(path)).name
+
+    def PUTDATA(self, p, path, disp, knt, buffer):
+        data = self.data[self.written(p, path, PUT)]
+        if disp == 0 or knt == 0 or knt > len(buffer) or disp - 1 + knt > len(data):
+            raise Refused("SLIM")
+        data[disp - 1:disp - 1 + knt] = buffer[:knt]
+        return 0
+
+    def ADDATA(self, p, path, knt, buffer):
+        name = self.written(p, path, ADDR)
+        data, most = self.data[name], 0 if self.kinds[name] == 3 else 64
+        if knt == 0 or knt > len(buffer) or len(data) + knt > most:
+            raise Refused("SLIM")
+        data += buffer[:knt]
+        return 0
+
+    def ERASE(self, p, path):
+        name = self.written(p, path, ERASE)
+        del self.kinds[name], self.lists[name], self.data[name]
+        return 0
+
+
 class Script:
     """A script with what it must print, line by line, as the model plays it."""
 
-    def __init__(self, rule, about):
+    def __init__(self, rule, about, element="words"):
         self.scene, self.out, self.reached = Scene(rule), [], set()
-        self.text = [f"# Written by generate.py: {about}.", f"rule {rule.name}", ""]
-        self.opened = False
+        self.text = [f"# Written by generate.py: {about}.", f"rule {rule.name}", f"element {element}", ""]
+        self.opened, self.more = False, 0.5 if element == "floats" else 0
 
     def say(self, line, head, call, buffer=None):
         before = None if buffer is None else list(buffer)
@@ -334,9 +387,16 @@ class Script:
         elif kall in ("PASS", "STORE", "APPEND", "PASSAPPEND", "INTERCHANGE"):
             line += f" {shown} {n}" + ("" if mask is None else f" mask {mask}")
             words = [p, path, n, mask]
-        elif kall == "GETDATA":
-            buffer = [7] * room
+        elif kall in ("GETDATA", "PUTDATA"):
+            buffer = [7 + i + self.more for i in range(room)]
             line, words = f"{line} {shown} {disp} {knt}", [p, path, disp, knt, buffer]
+        elif kall == "ADDATA":
+            buffer = [30 + i + self.more for i in range(room)]
+            line, words = f"{line} {shown} {knt}", [p, path, knt, buffer]
+        elif kall == "DATA":
+            buffer = [50 + i + self.more for i in range(room)]
+            line += f" {shown} {knt}" + ("" if mask is None else f" mask {mask}")
+            words = [p, path, knt, mask, buffer]
         elif path is not None:
             line, words = f"{line} {shown}", [p, path]
         self.say(line, f"{p} {kall}", lambda: getattr(self.scene, kall)(*words), buffer)
@@ -350,7 +410,7 @@ class Script:
 
     def reckon(self):
         self.text += ["", "reckon"]
-        self.out.append(f"reckon: {len(self.scene.lists)} 0 0 0 0 0 0 0 0")
+        self.out.append("reckon: " + " ".join(str(self.scene.living(share)) for share in range(9)))
 
     def write(self, name):
         here = pathlib.Path(__file__).parent / "played"
@@ -359,25 +419,30 @@ class Script:
 
 
 READING = ["CLENTH", "DLENTH", "GETDATA", "LOAD"]
-MASKED = ["PASS", "STORE", "APPEND", "PASSAPPEND", "INTERCHANGE"]
-WITH_PATH = READING + ["TAKE", "DELETE"] + MASKED
+CARRYING = ["PASS", "STORE", "APPEND", "PASSAPPEND", "INTERCHANGE"]
+MASKED = CARRYING + ["DATA"]
+WRITING = ["PUTDATA", "ADDATA", "ERASE"]
+WITH_PATH = READING + ["TAKE", "DELETE"] + CARRYING + ["DATA", "UNIV"] + WRITING
 # What the last position of a path must be, and the rights that are asked of it.
 TARGET = {"CLENTH": ("object", [LOAD]), "DLENTH": ("object", [GET]), "GETDATA": ("object", [GET]),
           "LOAD": ("held", []), "PASS": ("empty", []), "STORE": ("empty", []), "TAKE": ("held", [DLT]),
           "APPEND": ("object", [MDFY, APP]), "PASSAPPEND": ("object", [MDFY, APP]),
-          "DELETE": ("held", [DLT]), "INTERCHANGE": ("held", [DLT])}
+          "DELETE": ("held", [DLT]), "INTERCHANGE": ("held", [DLT]), "DATA": ("empty", []), "UNIV": ("empty", []),
+          "PUTDATA": ("object", [PUT, MDFY]), "ADDATA": ("object", [ADDR, MDFY]), "ERASE": ("object", [ERASE, MDFY])}
 PRETARGET = {**{k: [LOAD] for k in READING}, "PASS": [STO, MDFY], "STORE": [STO, MDFY],
              "TAKE": [KILL, LOAD, MDFY], "APPEND": [LOAD, UCNF], "PASSAPPEND": [LOAD, UCNF],
-             "DELETE": [MDFY, KILL], "INTERCHANGE": [MDFY, KILL, LOAD, STO]}
+             "DELETE": [MDFY, KILL], "INTERCHANGE": [MDFY, KILL, LOAD, STO], "DATA": [STO, MDFY], "UNIV": [STO, MDFY],
+             **{k: [LOAD, UCNF] for k in WRITING}}
 STEP = {k: [LOAD] if k in READING else [LOAD, UCNF] for k in WITH_PATH}
 CUR = {"PASS": [DLT, ENV], "STORE": [ENV], "APPEND": [ENV], "PASSAPPEND": [ENV, DLT], "INTERCHANGE": [DLT]}
 # Slots of the name space and of every list on the way: 1 leads on with all rights.
 ON, EMPTY, TEMPLATE, LOW_TEMPLATE = 1, 2, 3, 4
-FULL_LIST, DATA_OBJECT, CHAIN = 7, 8, 6
+GONE = 8
+FULL_LIST, DATA_OBJECT, ENDED, CHAIN = 7, 8, 9, 6
 
 
 def lacking(rule, kall):
-    """Codes that lack each right that the kall asks for on a path, at most four of them."""
+    """Codes that lack each right that the kall asks for on a path."""
     wanted = sorted(set(STEP[kall] + PRETARGET[kall] + TARGET[kall][1]))
     return sorted({rule.without(r) for r in wanted})
 
@@ -386,10 +451,12 @@ def every(rule, kall):
     """Each refusal of the kall, at each position of a path where there can be one."""
     s = Script(rule, f"each refusal of {kall} where it can come up, under {rule.name}")
     s.enrol()
+    s.enrol()
     for i in range(CHAIN):
-        s.make(2, [10 + i])
+        s.make(2, [10 + i, 20 + i, 30 + i])
     s.make(2)
     s.make(1, [1, 2, 3])
+    s.make(2)
     codes = lacking(rule, kall)
     for at in range(CHAIN + 1):
         owner = ("process", 1) if at == 0 else ("object", at)
@@ -397,61 +464,73 @@ def every(rule, kall):
         s.plant(*owner, ON, leads, rule.full)
         s.template(*owner, TEMPLATE, rule.full)
         s.template(*owner, LOW_TEMPLATE, 0)
-        for i, code in enumerate(codes):
+        for i, code in enumerate(codes[:3]):
             s.plant(*owner, 5 + i, leads, code)
+        s.plant(*owner, GONE, ENDED, rule.full)
     for slot in range(1, 9):
         s.plant("object", FULL_LIST, slot, 1, rule.full)
     s.plant("process", 1, 10, FULL_LIST, rule.full)
     s.plant("process", 1, 11, DATA_OBJECT, rule.full)
     s.plant("process", 1, 12, 1, rule.full)
+    s.plant("process", 2, ON, 1, rule.full)
+    s.plant("process", 2, 12, 1, rule.full)
+    for i, code in enumerate(codes):
+        s.plant("process", 2, 3 + i, 1, code)
     s.open()
+    s.ask(1, "ERASE", [GONE])
     n = {"LOAD": EMPTY, "TAKE": EMPTY}.get(kall, 12 if kall in CUR else None)
-    low = range(5, 5 + len(codes))
-    for p in (0, 2, 9, 4294967295):
+    low = range(5, 5 + len(codes[:3]))
+    for p in (0, 3, 9, 4294967295):
         s.ask(p, kall, [], n, mask=rule.invalid if kall in MASKED else None)
     if kall in MASKED:
         for mask in (rule.invalid, 4294967295):
             s.ask(1, kall, [], n, mask)
     for path in ([], [ON] * 7):
         s.ask(1, kall, path, 0 if n else None)
-    paths_that_lead = [[ON] * k for k in range(1, 7)]
     if kall in ("LOAD", "TAKE"):
         for new in (0, 13, 4294967295, ON, TEMPLATE):
             s.ask(1, kall, [EMPTY, 1], new)
     if kall in CUR:
-        for cur in (0, 13, 4294967295, EMPTY):
-            s.refused(1, kall, [EMPTY, 1], cur)
-        for cur in (LOW_TEMPLATE, *low):
+        for cur in (0, 13, 4294967295, EMPTY, LOW_TEMPLATE, *low):
             s.refused(1, kall, [EMPTY, 1], cur)
     for length in range(2, 7):
         for at in range(1, length):
             way, rest = [ON] * (at - 1), [ON] * (length - at)
-            for index in (0, 13, 4294967295, EMPTY, TEMPLATE, *low):
+            for index in (0, 13, 4294967295, EMPTY, TEMPLATE, GONE, *low):
                 s.refused(1, kall, way + [index] + rest, n)
+    for i in range(len(codes)):
+        s.refused(2, kall, [3 + i, ON], n)
+        s.refused(2, kall, [3 + i, EMPTY], n)
+        s.refused(2, kall, [3 + i], n)
     kind, _ = TARGET[kall]
-    for way in [[]] + paths_that_lead[:5]:
-        bad = {"empty": [0, 13, ON, TEMPLATE], "held": [0, 13, EMPTY, LOW_TEMPLATE],
-               "object": [0, 13, EMPTY, TEMPLATE, LOW_TEMPLATE, *low]}[kall and kind]
-        if kind == "held" and kall != "LOAD":
-            bad += [5 + i for i, code in enumerate(codes) if not rule.grants(code, DLT)]
-        for index in bad:
+    for way in [[ON] * k for k in range(6)]:
+        for index in (0, 13, ON, EMPTY, TEMPLATE, LOW_TEMPLATE, GONE, *low):
             if way + [index] != [n]:
                 s.refused(1, kall, way + [index], n)
-    s.ask(1, kall, [11, 1], n)
-    if kall == "GETDATA":
-        for disp, knt in ((0, 1), (4, 1), (4294967295, 1), (1, 0), (1, 3), (1, 4294967295)):
-            s.ask(1, kall, [11], disp=disp, knt=knt)
-        s.ask(1, kall, [11], disp=3, knt=2)
+    s.refused(1, kall, [11, 1], n)
+    if kall in ("GETDATA", "PUTDATA"):
+        for disp, knt in ((0, 1), (4, 1), (3, 2), (4294967295, 1), (1, 0), (1, 3), (1, 4294967295), (4294967295, 4294967295)):
+            s.refused(1, kall, [11], disp=disp, knt=knt)
+    if kall == "ADDATA":
+        for knt, room in ((0, 2), (3, 2), (4294967295, 2), (62, 70), (64, 70)):
+            s.refused(1, kall, [11], knt=knt, room=room)
+    if kall == "DATA":
+        for knt, room in ((3, 2), (65, 70), (4294967295, 2)):
+            s.refused(1, kall, [EMPTY], knt=knt, room=room)
     if kall in ("APPEND", "PASSAPPEND"):
         s.ask(1, kall, [10], n)
         s.ask(1, kall, [11], n)
-    s.ask(1, "LENTH")
-    for k in range(1, 7):
-        s.ask(1, "CLENTH", [ON] * k)
+
+    def look():
+        s.ask(1, "LENTH")
+        for k in range(1, 7):
+            s.ask(1, "CLENTH", [ON] * k)
+            s.ask(1, "DLENTH", [ON] * k)
+            s.ask(1, "GETDATA", [ON] * k, knt=8, room=8)
+
+    look()
     s.ask(1, kall, {"empty": [ON, EMPTY], "held": [ON, ON], "object": [ON, ON]}[kind], n)
-    s.ask(1, "LENTH")
-    for k in range(1, 7):
-        s.ask(1, "CLENTH", [ON] * k)
+    look()
     s.reckon()
     return s
 
@@ -524,12 +603,58 @@ def alias(rule):
     return s
 
 
+def rooms(rule, element):
+    """Objects are made, written and ended until there is no room, and again."""
+    s = Script(rule, f"room for 16 objects of a process, under {rule.name}, with {element}", element)
+    for _ in range(2):
+        s.enrol()
+    for _ in range(3):
+        s.make(2)
+    for p in (1, 2):
+        for slot in (1, 2, 3):
+            s.plant("process", p, slot, slot, rule.full)
+    s.open()
+    s.ask(1, "UNIV", [4])
+    for path in [[a, b] for a in (1, 2) for b in range(1, 9)][:15]:
+        s.ask(1, "DATA", path, knt=len(path), room=3)
+    s.ask(1, "UNIV", [5])                         # the seventeenth
+    s.ask(1, "DATA", [5], knt=65, room=70)        # and what is refused before it
+    s.ask(1, "ERASE", [1, 3])
+    s.ask(1, "CLENTH", [1, 3])
+    s.ask(1, "GETDATA", [1, 3])
+    s.ask(1, "UNIV", [1, 3])                      # the slot keeps its capability
+    s.ask(1, "DELETE", [1, 3])
+    s.ask(1, "UNIV", [1, 3])                      # its place serves again: nothing of before is there
+    s.ask(1, "DLENTH", [1, 3])
+    s.ask(1, "CLENTH", [1, 3])
+    s.ask(1, "DATA", [5])
+    s.ask(2, "DATA", [5], knt=64, room=64)        # another share has room
+    s.ask(2, "ADDATA", [5], knt=1)
+    s.ask(2, "PUTDATA", [5], disp=64, knt=1)
+    s.ask(2, "PUTDATA", [5], disp=64, knt=2)
+    s.ask(2, "GETDATA", [5], disp=62, knt=8, room=8)
+    for slot, mask in ((6, 0), (7, rule.without(PUT)), (8, rule.without(ERASE))):
+        s.ask(2, "DATA", [slot], mask=mask, knt=2)
+        for kall in ("ADDATA", "PUTDATA", "DLENTH", "GETDATA", "ERASE", "DELETE"):
+            s.ask(2, kall, [slot])
+    s.ask(2, "STORE", [3, 1], 5)
+    s.ask(1, "DLENTH", [3, 1])                    # what one made, the other reads
+    s.ask(2, "ERASE", [5])
+    s.ask(1, "DLENTH", [3, 1])
+    s.ask(1, "LOAD", [3, 1], 5)                   # a capability for what has ended is a slot still
+    s.ask(1, "ERASE", [5])
+    s.ask(1, "ERASE", [1])
+    s.ask(1, "CLENTH", [1, 1])
+    s.reckon()
+    return s
+
+
 def mixed(rule, seed):
     """Kalls at random over a scene at random."""
     r = random.Random(f"{rule.name} {seed}")
     s = Script(rule, f"kalls at random, seed {seed}, under {rule.name}")
     some = [rule.full] * 6 + [rule.without(x) for x in (DLT, ENV, LOAD, STO, APP, KILL, GET, MDFY, UCNF)]
-    some += [0, 1, 2, 3]
+    some += [rule.without(x) for x in (PUT, ADDR, ERASE)] + [0, 1, 2, 3]
     for _ in range(3):
         s.enrol()
     for _ in range(9):
@@ -557,7 +682,8 @@ def mixed(rule, seed):
             s.ask(p, kall)
             continue
         mask = r.choice((None, r.choice(some), rule.invalid)) if kall in MASKED else None
-        s.ask(p, kall, path(), r.randrange(0, 14), mask, r.randrange(0, 9), r.randrange(0, 9), r.randrange(0, 9))
+        room = r.randrange(60, 70) if r.random() < .1 else r.randrange(0, 9)
+        s.ask(p, kall, path(), r.randrange(0, 14), mask, r.randrange(0, 9), r.randrange(0, room + 2), room)
     s.reckon()
     return s
 
@@ -569,6 +695,8 @@ def main():
         for kall in WITH_PATH:
             scripts[f"every-{kall}-{rule.name}"] = every(rule, kall)
         scripts[f"alias-{rule.name}"] = alias(rule)
+        for element in ("words", "floats"):
+            scripts[f"rooms-{rule.name}-{element}"] = rooms(rule, element)
         for seed in range(1, 9):
             scripts[f"mixed-{rule.name}-{seed}"] = mixed(rule, seed)
     if sys.argv[1:] == ["--reached"]:

@@ -1,12 +1,13 @@
 -- Each kall is sound.
-use Rattle.std.proofs.Common.{◌≡◌, ℕ, Bool, true, List, [], length, pos, Ok, Err, vec_items, Option, Result, ap}
+use Rattle.std.proofs.Common.{◌≡◌, ℕ, ◌≤◌, Bool, true, false, cond, T, eqb, List, [], ◌∷◌, length, pos, None, Ok, Err, vec_items, Option, Result, ap, inl}
+use Rattle.model.specs.declared.kinds.Name.{Name}
 use Rattle.model.specs.declared.kinds.Slot.{Slot}
 use Rattle.model.specs.declared.kinds.Change.{Change}
 use Rattle.model.specs.declared.kinds.Change.TheVariants.{Moved, Stored}
 use Rattle.model.specs.declared.kinds.Kall.{Kall}
-use Rattle.model.specs.declared.kinds.Kall.TheVariants.{Lenth, Clenth, Dlenth, Getdata, Load, Pass, Take, Store, Append, Passappend, Delete, Interchange}
+use Rattle.model.specs.declared.kinds.Kall.TheVariants.{Lenth, Clenth, Dlenth, Getdata, Load, Pass, Take, Store, Append, Passappend, Delete, Interchange, Data, Univ, Putdata, Addata, Erase}
 use Rattle.model.specs.declared.signals.Fault.{Fault}
-use Rattle.model.specs.Model.{World}
+use Rattle.model.specs.Model.{World, mdfyrts}
 use Rattle.model.specs.Plan.{Plan, after}
 use Rattle.model.specs.Kalls.{
   Edit,
@@ -27,14 +28,23 @@ use Rattle.model.specs.Kalls.{
   kall_take,
   kall_store,
   appended,
+  room_at,
   carried,
   fetched,
   appending,
   kall_delete,
   kall_interchange,
   plan,
+  fill,
+  making,
+  write_at,
+  overwritten,
+  lengthened,
+  kall_putdata,
+  kall_addata,
+  kall_erase,
 }
-use Rattle.model.proofs.Safe.{Setting, level, Fit, OwnAt, On, Sound, bind, pure, branch, weaken}
+use Rattle.model.proofs.Safe.{Setting, level, Fit, OwnAt, On, Sound, bind, pure, branch, weaken, Side, Own}
 use Rattle.model.proofs.Views.{
   here,
   kept_by,
@@ -54,8 +64,18 @@ use Rattle.model.proofs.Views.{
   sound_vacant,
   sound_walk,
   Stands,
+  asks,
+  on_any,
+  sound_new_object,
+  sound_part_limit,
 }
-use Rattle.model.proofs.Edits.{AdmitsAll}
+use Rattle.model.proofs.Edits.{AdmitsAll, own_new}
+
+-- a capability for what the caller makes
+new_side : (S : Setting) (b : Bool) (p k r : ℕ) → S.cast p ≡ b → 1 ≤ p
+    → Side S (level b true) (record { name = record { share = p; number = k }; rights = r })
+new_side S true p k r c h = inl (own_new S true p k c h)
+new_side S false p k r c h = λ q. absurd (own_new S false p k c h q)
 
 module _ {E : Type 0} (S : Setting) (b : Bool) (p : ℕ) (c : S.cast p ≡ b) where
   -- what each kall comes to: its edits are the caller's to make
@@ -178,11 +198,63 @@ module _ {E : Type 0} (S : Setting) (b : Bool) (p : ℕ) (c : S.cast p ≡ b) wh
       bind (sound_held p c _ _ _ k.place) λ r h.
       pure (Ok _) ((tt, fit_taken S b t.clear r h), ((k.own tt tt, fit_moved S (level b true) mask s f), tt))
 
+  sound_room_at : (path : List ℕ) (mask : Option ℕ) → Sound {E = E} S b (λ w. room_at S.rule p path mask w.frame) (λ s. 1 ≤ p × OwnAt S b s.holder)
+  sound_room_at path mask =
+      bind (sound_enter p c _ _) λ _ h.
+      bind (sound_walk p c _ _ path) λ t k.
+      bind (sound_vacant p c _ _ k.place) λ _ _.
+      pure (Ok _) (h, k.own tt tt)
+
+  sound_making : (kind : ℕ) (path : List ℕ) (mask : Option ℕ) (given : Result (List E) Fault) → Sound {E = E} S b (λ w. making S.rule p kind path mask given w.frame) GoodPlain
+  sound_making kind path mask given =
+      bind (sound_room_at path mask) λ s h.
+      bind {Q = λ _. Unit {0}} (pure given (on_any S _)) λ xs _.
+      bind (sound_new_object p c xs) λ n _.
+      pure (Ok _) (h.0, ((h.1, new_side S b p n _ c h.0), tt))
+
+  sound_write_at : (k : ℕ) (path : List ℕ) → Sound {E = E} S b (λ w. write_at S.rule p k path w.frame) (λ x. (b ≡ true → S.Kept x.name) × Own S b x.name)
+  sound_write_at k path =
+      bind (sound_enter p c _ _) λ _ _.
+      bind (sound_walk p c _ _ path) λ t st.
+      weaken (sound_object_at p c _ _ _ st.place) λ x h. (kept_by b h, owned_by st h tt tt (modify k))
+    where
+      modify : (k : ℕ) → T (asks mdfyrts (k ∷ mdfyrts ∷ []))
+      modify k = go (eqb k mdfyrts)
+        where
+          go : (x : Bool) → T (cond x true true)
+          go true = tt
+          go false = tt
+
+  sound_filling : (n : Name) (k : List E → Result (List E) Fault) → (b ≡ true → S.Kept n) → Own S b n
+      → Sound {E = E} S b (λ w. after (k (w.elements n)) (λ ys. Ok (record { value = pos 0; edits = fill n ys ∷ [] }))) GoodPlain
+  sound_filling n k kept own =
+      sound_elements n kept (λ part. after (k part) (λ ys. Ok (record { value = pos 0; edits = fill n ys ∷ [] }))) (λ part. fine (k part))
+    where
+      fine : (r : Result (List E) Fault) → On GoodPlain (after r (λ ys. Ok (record { value = pos 0; edits = fill n ys ∷ [] })))
+      fine (Ok ys) = (own, tt)
+      fine (Err e) = tt
+
+  sound_putdata : (path : List ℕ) (disp knt : ℕ) (xs : List E) → Sound {E = E} S b (kall_putdata S.rule p path disp knt xs) GoodPlain
+  sound_putdata path disp knt xs =
+      bind (sound_write_at _ path) λ x h.
+      sound_filling x.name (overwritten disp knt xs) h.0 h.1
+
+  sound_addata : (path : List ℕ) (knt : ℕ) (xs : List E) → Sound {E = E} S b (kall_addata S.rule p path knt xs) GoodPlain
+  sound_addata path knt xs =
+      bind (sound_write_at _ path) λ x h.
+      bind (sound_part_limit x.name h.0) λ most _.
+      sound_filling x.name (lengthened knt most xs) h.0 h.1
+
+  sound_erase : (path : List ℕ) → Sound {E = E} S b (λ w. kall_erase S.rule p path w.frame) GoodPlain
+  sound_erase path =
+      bind (sound_write_at _ path) λ x h.
+      pure (Ok _) (h.1, tt)
+
   pub sound_plan : (k : Kall) (xs : List E) → Sound {E = E} S b (plan S.rule p k xs) Good
   sound_plan Lenth xs = plainly sound_lenth
   sound_plan (Clenth path) xs = plainly (sound_clenth (vec_items path))
   sound_plan (Dlenth path) xs = plainly (sound_dlenth (vec_items path))
-  sound_plan (Getdata path disp knt) xs = sound_getdata (vec_items path) disp knt xs
+  sound_plan (Getdata k) xs = sound_getdata (vec_items k.path) k.disp k.knt xs
   sound_plan (Load k) xs = plainly (sound_load k.new (vec_items k.path))
   sound_plan (Pass k) xs = plainly (sound_pass (vec_items k.path) k.cur k.mask)
   sound_plan (Take k) xs = plainly (sound_take k.new (vec_items k.path))
@@ -191,3 +263,8 @@ module _ {E : Type 0} (S : Setting) (b : Bool) (p : ℕ) (c : S.cast p ≡ b) wh
   sound_plan (Passappend k) xs = plainly (sound_appending _ (Moved k.mask) _ (vec_items k.path) k.cur k.mask (fit_moved S (level b true) k.mask) ((tt, tt), tt))
   sound_plan (Delete path) xs = plainly (sound_delete (vec_items path))
   sound_plan (Interchange k) xs = plainly (sound_interchange (vec_items k.path) k.cur k.mask)
+  sound_plan (Data path knt mask) xs = plainly (sound_making 1 (vec_items path) mask _)
+  sound_plan (Univ path) xs = plainly (sound_making 2 (vec_items path) None (Ok []))
+  sound_plan (Putdata k) xs = plainly (sound_putdata (vec_items k.path) k.disp k.knt xs)
+  sound_plan (Addata path knt) xs = plainly (sound_addata (vec_items path) knt xs)
+  sound_plan (Erase path) xs = plainly (sound_erase (vec_items path))

@@ -26,6 +26,8 @@ use Rattle.model.specs.Kalls.{
   make,
   apply,
   apply_all,
+  fill,
+  finish,
 }
 use Rattle.model.specs.Kalls.{next as next_name}
 use Rattle.model.proofs.Safe.{Setting, level, Fit, Fits, FitsSpaces, Own, OwnAt, Inv, Alike, AlikeAll}
@@ -200,10 +202,20 @@ module _ (S : Setting) where
     unfolding on_given
     given_quiet d w = record { process = λ q c. refl; living = λ q c. refl; given = uncounted w.given d; object = λ n k. refl }
 
+  -- what is not the cast's is of a share outside it
+  pub others : (n : Name) → ¬ S.Kept n → S.cast n.share ≡ false
+  others n h = go (S.cast n.share) refl
+    where
+      go : (x : Bool) → S.cast n.share ≡ x → x ≡ false
+      go true e = absurd (h (S.made n e))
+      go false e = refl
+
   -- what the side b may do, p being the caller
   abbrev pub Admits : {E : Type 0} → Bool → ℕ → Edit E → Type 0
   Admits b p (put h i s) = OwnAt S b h × Fit S (level b true) s
   Admits b p (make kind xs) = 1 ≤ p
+  Admits b p (fill n xs) = Own S b n
+  Admits b p (finish n) = Own S b n
 
   abbrev pub AdmitsAll : {E : Type 0} → Bool → ℕ → List (Edit E) → Type 0
   AdmitsAll b p [] = Unit {0}
@@ -228,6 +240,9 @@ module _ {E : Type 0} (S : Setting) where
       (object_inv S (next_name p w.frame) (λ o. fresh kind) b (own_new S b p (w.frame.given p + 1) c h)
       (λ o k. fits_empty S (level b true) 8)
       (λ z. absurd (S.house (next_name p w.frame) h z)) w.frame v))
+  edit_inv b p c (fill n xs) h w v = v
+  edit_inv b p c (finish n) h w v =
+      living_inv S n.share (λ k. k - 1) (object_inv S n (λ o. None) b h (λ o k. tt) (λ _. refl) w.frame v)
 
   refilled_alike : (n : Name) (xs : List E) (v w : Name → List E) → ((m : Name) → S.Kept m → v m ≡ w m)
       → (m : Name) → S.Kept m → refilled n xs v m ≡ refilled n xs w m
@@ -253,6 +268,13 @@ module _ {E : Type 0} (S : Setting) where
             (a.frame.given p c)
             (refilled_alike (next_name p v.frame) xs v.elements w.elements a.elements);
       }
+  edit_alike p c (fill n xs) {v} {w} a =
+      record { frame = a.frame; elements = refilled_alike n xs v.elements w.elements a.elements }
+  edit_alike p c (finish n) {v} {w} a =
+      record {
+        frame = living_alike S n.share (λ k. k - 1) (object_alike S n (λ o. None) a.frame);
+        elements = refilled_alike n [] v.elements w.elements a.elements;
+      }
 
   pub edit_quiet : (p : ℕ) → S.cast p ≡ false → (e : Edit E) → Admits S false p e → (w : World E) → AlikeAll S (apply p e w) w
   unfolding put_own put_listed
@@ -266,6 +288,12 @@ module _ {E : Type 0} (S : Setting) where
         frame = alike_trans S (living_quiet S p (λ k. k + 1) c (on_given p (λ k. k + 1) w₁))
             (alike_trans S (given_quiet S p (λ k. k + 1) c w₁) (object_quiet S (next_name p w.frame) (λ o. fresh kind) own w.frame));
         elements = refilled_quiet (next_name p w.frame) xs w.elements own;
+      }
+  edit_quiet p c (fill n xs) h w = record { frame = alike_self S w.frame; elements = refilled_quiet n xs w.elements h }
+  edit_quiet p c (finish n) h w =
+      record {
+        frame = alike_trans S (living_quiet S n.share (λ k. k - 1) (others S n h) (on_object n (λ o. None) w.frame)) (object_quiet S n (λ o. None) h w.frame);
+        elements = refilled_quiet n [] w.elements h;
       }
 
   -- and so for lists of edits

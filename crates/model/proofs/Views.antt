@@ -1,5 +1,5 @@
 -- What a plan can read, each thing sound.
-use Rattle.std.proofs.Common.{◌≡◌, ℕ, zero, suc, ◌+◌, ◌-◌, Bool, true, false, cond, ◌&&◌, T, eqb, ltb, List, [], ◌∷◌, length, get_or, set, replicate, Some, None, Ok, Err, Option, Result, sym, refl, ap, ◌∙◌, subst, inl, inr, lit≤, eqb→eq}
+use Rattle.std.proofs.Common.{◌≡◌, ℕ, zero, suc, ◌+◌, ◌-◌, ◌≤◌, Bool, true, false, cond, ◌&&◌, T, eqb, ltb, leb, List, [], ◌∷◌, length, get_or, set, replicate, Some, None, Ok, Err, Option, Result, sym, refl, ap, ◌∙◌, subst, ap₂, inl, inr, true≢false, arith, lit≤, eqb→eq}
 use Rattle.std.proofs.lemmas.Bool.{and_from, and_parts, false≢true}
 use Rattle.model.specs.declared.kinds.Name.{Name}
 use Rattle.model.specs.declared.kinds.Cap.{Cap}
@@ -10,7 +10,7 @@ use Rattle.model.specs.declared.kinds.Change.TheVariants.{Taken, Loaded, Moved, 
 use Rattle.model.specs.declared.kinds.Holder.{Holder}
 use Rattle.model.specs.declared.kinds.Holder.TheVariants.{Mine, Listed}
 use Rattle.model.specs.declared.signals.Fault.{Fault}
-use Rattle.model.specs.declared.signals.Signal.TheVariants.{Sindex, Sgone, Srts}
+use Rattle.model.specs.declared.signals.Signal.TheVariants.{Sindex, Sgone, Srts, Sproc, Sstop, Sroom, Snames}
 use Rattle.model.specs.Signals.{fault}
 use Rattle.model.specs.Model.{Body, Task, Rule, mdfyrts, ucnfrts}
 use Rattle.model.specs.Plan.{
@@ -44,6 +44,11 @@ use Rattle.model.specs.Plan.{
   list_length,
   after_length,
   next_slot,
+  new_number,
+  new_object,
+  places,
+  most_of,
+  part_limit,
 }
 use Rattle.model.specs.Isolation.{If, Look}
 use Rattle.model.specs.Kalls.{on_rights, masked, changed}
@@ -276,16 +281,33 @@ module _ {E : Type 0} {S : Setting} {b : Bool} (p : ℕ) (c : S.cast p ≡ b) wh
   sound_slot_at : {h : Holder} {u : Bool} (i at : ℕ) → Place S b h u → Sound {E = E} S b (λ w. slot_at w.frame p h i at) (Fit S (level b u))
   sound_slot_at {h} {u} i at n = branch (eqb i 0) (pure (Err _) tt) (sound_slot_in S b p c h u (i - 1) at n.near)
 
-  pub sound_runs : Sound {E = E} S b (λ w. runs p w.frame) (λ _. Unit {0})
+  pub sound_runs : Sound {E = E} S b (λ w. runs p w.frame) (λ _. 1 ≤ p)
   unfolding runs
-  sound_runs = record { good = λ w v. on_any S _; same = λ t v w _ _ a. ap task_runs (a.frame.process p (c ∙ t)) }
+  sound_runs = test (eqb p 0) refl
+    where
+      task : (x : Option Task) → 1 ≤ p → On (λ _. 1 ≤ p) (task_runs x)
+      task None h = tt
+      task (Some t) h = runner t.running
+        where
+          runner : (r : Bool) → On {A = Unit {0}} (λ _. 1 ≤ p) (cond r (Ok tt) (Err (fault Sstop 0)))
+          runner true = h
+          runner false = tt
 
-  pub sound_enter : (mask : Option ℕ) (len : ℕ) → Sound {E = E} S b (λ w. enter S.rule p mask len w.frame) (λ _. Unit {0})
+      positive : (q : ℕ) → eqb q 0 ≡ false → 1 ≤ q
+      positive zero e = absurd (true≢false e)
+      positive (suc q) e = omega arith
+
+      test : (x : Bool) → eqb p 0 ≡ x → Sound {E = E} S b (λ w. cond x (Err (fault Sproc 0)) (task_runs (w.frame.process p))) (λ _. 1 ≤ p)
+      test true e = pure (Err _) tt
+      test false e =
+          record { good = λ w v. task (w.frame.process p) (positive p e); same = λ t v w _ _ a. ap task_runs (a.frame.process p (c ∙ t)) }
+
+  pub sound_enter : (mask : Option ℕ) (len : ℕ) → Sound {E = E} S b (λ w. enter S.rule p mask len w.frame) (λ _. 1 ≤ p)
   unfolding enter
   sound_enter mask len =
-      bind sound_runs λ _ _.
+      bind sound_runs λ _ h.
       bind {Q = λ _. Unit {0}} (pure (mask_ok S.rule mask) (on_any S _)) λ _ _.
-      pure (path_ok len) (on_any S _)
+      branch (leb 1 len && leb len 6) (pure (Ok tt) h) (pure (Err _) tt)
 
   pub sound_object_at : {h : Holder} {u : Bool} (ks : List ℕ) (i at : ℕ) → Place S b h u → Sound {E = E} S b (λ w. object_at S.rule ks p h i at w.frame) (Known S b u ks)
   unfolding object_at
@@ -317,6 +339,16 @@ module _ {E : Type 0} {S : Setting} {b : Bool} (p : ℕ) (c : S.cast p ≡ b) wh
     unfolding walk
     sound_walk path = bind {Q = λ _. Unit {0}} (pure (path_ok (length path)) (on_any S _)) λ _ _. sound_from path
 
+  pub sound_new_object : (xs : List E) → Sound {E = E} S b (λ w. new_object p xs w.frame) (λ _. Unit {0})
+  unfolding new_object new_number
+  sound_new_object xs =
+      branch (leb (length xs) 64)
+      (record {
+        good = λ w v. on_any S _;
+        same = λ t v w _ _ a. ap₂ (λ l g. cond (leb (places p) l) (Err (fault Sroom 0)) (cond (leb 60000 g) (Err (fault Snames 0)) (Ok (g + 1)))) (a.frame.living p (c ∙ t)) (a.frame.given p (c ∙ t));
+      })
+      (pure (Err _) tt)
+
   pub sound_length : Sound {E = E} S b (λ w. length_of p w.frame) (λ _. Unit {0})
   unfolding length_of
   sound_length = record { good = λ w v. tt; same = λ t v w _ _ a. ap (λ o. Ok (last_filled (top_slots (spaces_of o)))) (a.frame.process p (c ∙ t)) }
@@ -336,6 +368,10 @@ module _ {E : Type 0} {S : Setting} {b : Bool} (n : Name) (kept : b ≡ true →
   pub sound_next_slot : Sound {E = E} S b (λ w. next_slot n w.frame) (λ _. Unit {0})
   unfolding next_slot
   sound_next_slot = record { good = λ w v. on_any S _; same = λ t v w _ _ a. ap after_length (a.frame.object n (kept t)) }
+
+  pub sound_part_limit : Sound {E = E} S b (λ w. part_limit n w.frame) (λ _. Unit {0})
+  unfolding part_limit
+  sound_part_limit = record { good = λ w v. tt; same = λ t v w _ _ a. ap (λ o. Ok (most_of o)) (a.frame.object n (kept t)) }
 
   pub sound_elements : {A : Type 0} {Q : A → Type 0} (k : List E → Result A Fault) → ((xs : List E) → On Q (k xs)) → Sound {E = E} S b (λ w. k (w.elements n)) Q
   sound_elements k q = record { good = λ w v. q (w.elements n); same = λ t v w _ _ a. ap k (a.elements n (kept t)) }

@@ -151,9 +151,9 @@ module _ {E : Type 0} (S : Setting) where
   run_always F f (r ∷ rs) w i = (f _ (serve_inv r _ refl w i), run_always F f rs _ (serve_inv r _ refl w i))
 
 -- the setting of an opening
-module _ (rule : Rule) (laws : Laws rule) (cast : ℕ → Bool) (zero_out : cast 0 ≡ false) (w : Frame) (o : Opened w) (l : LookedAt rule cast w) where
+module _ (rule : Rule) (laws : Laws rule) (cast : ℕ → Bool) (zero-out : cast 0 ≡ false) (w : Frame) (o : Opened w) (l : LookedAt rule cast w) where
   no_home : (s : ℕ) → s ≡ 0 → cast s ≡ true → ⊥
-  no_home s e c = false≢true (sym zero_out ∙ (ap cast (sym e) ∙ c))
+  no_home s e c = false≢true (sym zero-out ∙ (ap cast (sym e) ∙ c))
 
   dead : (n : Name) → w.object n ≡ None → Lives w n → ⊥
   dead n e l = rw e at l

@@ -12,12 +12,12 @@ use Rattle.model.specs.declared.kinds.Change.TheVariants.{Taken, Loaded, Moved, 
 use Rattle.model.specs.declared.kinds.Holder.{Holder}
 use Rattle.model.specs.declared.kinds.Holder.TheVariants.{Mine, Listed}
 use Rattle.model.specs.declared.kinds.Kall.{Kall}
-use Rattle.model.specs.declared.kinds.Kall.TheVariants.{Lenth, Clenth, Dlenth, Getdata, Load, Pass, Take, Store, Append, Passappend, Delete, Interchange}
+use Rattle.model.specs.declared.kinds.Kall.TheVariants.{Lenth, Clenth, Dlenth, Getdata, Load, Pass, Take, Store, Append, Passappend, Delete, Interchange, Data, Univ, Putdata, Addata, Erase}
 use Rattle.model.specs.declared.signals.Fault.{Fault}
 use Rattle.model.specs.declared.signals.Signal.TheVariants.{Slim}
 use Rattle.model.specs.Signals.{fault}
-use Rattle.model.specs.Model.{Body, Task, Frame, World, Rule, dltrts, envrts, loadrts, storts, apprts, killrts, getrts, mdfyrts, ucnfrts}
-use Rattle.model.specs.Plan.{Plan, after, ◌>>=◌, ◌>>◌, runs, enter, length_of, list_length, next_slot, vacant, held, object_at, walk}
+use Rattle.model.specs.Model.{Body, Task, Frame, World, Rule, dltrts, envrts, loadrts, storts, apprts, killrts, getrts, mdfyrts, ucnfrts, putrts, addrrts, eraserts}
+use Rattle.model.specs.Plan.{Plan, after, ◌>>=◌, ◌>>◌, runs, enter, length_of, list_length, next_slot, vacant, held, object_at, walk, new_object, part_limit}
 
 abbrev pub same_name : Name → Name → Bool
 same_name n m = n.share == m.share && n.number == m.number
@@ -80,14 +80,19 @@ refilled n xs h = λ m. cond (same_name m n) xs (h m)
 abbrev pub unmade : Name → Frame → Frame
 unmade n f = on_living n.share (λ k. k - 1) (on_object n (λ o. None) f)
 
--- what is done to a scene, p being the caller: a slot is put at an index from 1, an object of p's share is made with its elements
+-- what is done to a scene, p being the caller: a slot is put at an index from 1, an object of p's share is made with its elements,
+-- an object is given other elements, an object ends
 pub data Edit (E : Type 0) : Type 0 where
   put : Holder → ℕ → Slot → Edit E
   make : ℕ → List E → Edit E
+  fill : Name → List E → Edit E
+  finish : Name → Edit E
 
 abbrev pub apply : {E : Type 0} → ℕ → Edit E → World E → World E
 apply p (put h i s) w = record { frame = put_in p h (i - 1) s w.frame; elements = w.elements }
 apply p (make kind xs) w = record { frame = made p kind w.frame; elements = refilled (next p w.frame) xs w.elements }
+apply p (fill n xs) w = record { frame = w.frame; elements = refilled n xs w.elements }
+apply p (finish n) w = record { frame = unmade n w.frame; elements = refilled n [] w.elements }
 
 abbrev pub apply_all : {E : Type 0} → ℕ → List (Edit E) → World E → World E
 apply_all p [] w = w
@@ -140,6 +145,17 @@ abbrev pub block : {E : Type 0} → ℕ → ℕ → ℕ → List E → Result (L
 block disp knt given xs =
     cond ((nat_le 1 disp && nat_le disp (length xs)) && (nat_le 1 knt && nat_le knt given)) (Ok (take knt (drop (disp - 1) xs))) (Err (fault Slim 0))
 
+-- a part with a block of it replaced by the buffer's first knt elements
+abbrev pub overwritten : {E : Type 0} → ℕ → ℕ → List E → List E → Result (List E) Fault
+overwritten disp knt xs part =
+    cond (((nat_le 1 disp && nat_le 1 knt) && nat_le knt (length xs)) && nat_le (disp - 1 + knt) (length part))
+    (Ok (take (disp - 1) part ++ (take knt xs ++ drop (disp - 1 + knt) part))) (Err (fault Slim 0))
+
+-- a part with the buffer's first knt elements after it
+abbrev pub lengthened : {E : Type 0} → ℕ → ℕ → List E → List E → Result (List E) Fault
+lengthened knt most xs part =
+    cond ((nat_le 1 knt && nat_le knt (length xs)) && nat_le (length part + knt) most) (Ok (part ++ take knt xs)) (Err (fault Slim 0))
+
 -- a block at the buffer's front, the rest of the buffer as it was
 abbrev pub copied : {E : Type 0} → List E → List E → Outcome E
 copied xs ys = record { value = pos (length ys); buffer = Some (ys ++ drop (length ys) xs); edits = [] }
@@ -182,6 +198,25 @@ module _ (rule : Rule) (p : ℕ) where
     t ← walk rule ks ls p path
     s ← held rule rs p t.site.holder t.site.index t.site.at
     λ _. Ok (s, t)
+
+  -- a capability for a new object of the caller's
+  abbrev pub whole : ℕ → Option ℕ → Slot
+  whole n mask = Capability (record { name = record { share = p; number = n }; rights = masked rule mask rule.full })
+
+  -- an empty site at the path's end
+  abbrev pub room_at : List ℕ → Option ℕ → Plan Frame Site
+  room_at path mask = do
+    enter rule p mask (length path)
+    t ← walk rule writing (storts ∷ mdfyrts ∷ []) p path
+    vacant p t.site.holder t.site.index t.site.at
+    λ _. Ok t.site
+
+  -- an object at the end of an open writing walk, with the rights to modify it and k
+  abbrev pub write_at : ℕ → List ℕ → Plan Frame Cap
+  write_at k path = do
+    enter rule p None (length path)
+    t ← walk rule writing writing p path
+    object_at rule (k ∷ mdfyrts ∷ []) p t.site.holder t.site.index t.site.at
 
 module _ {E : Type 0} (rule : Rule) (p : ℕ) where
   abbrev pub done : ℤ → List (Edit E) → Plan Frame (Plain E)
@@ -270,12 +305,49 @@ module _ {E : Type 0} (rule : Rule) (p : ℕ) where
     r ← held rule (dltrts ∷ []) p t.site.holder t.site.index t.site.at
     done (pos 0) (put Mine cur (changed rule (Taken t.clear) r) ∷ put t.site.holder t.site.index (changed rule (Moved mask) s) ∷ [])
 
+  -- an object is made with these elements, and the capability for it put at a site
+  abbrev pub made_at : ℕ → List E → Site → Option ℕ → Plan Frame (Plain E)
+  made_at kind xs s mask = do
+    n ← new_object p xs
+    done (pos 0) (make kind xs ∷ put s.holder s.index (whole rule p n mask) ∷ [])
+
+  -- a new object, at an empty slot
+  abbrev pub making : ℕ → List ℕ → Option ℕ → Result (List E) Fault → Plan Frame (Plain E)
+  making kind path mask given = do
+    s ← room_at rule p path mask
+    xs ← λ f. given
+    made_at kind xs s mask
+
+  abbrev pub kall_data : List ℕ → ℕ → Option ℕ → List E → Plan Frame (Plain E)
+  kall_data path knt mask xs = making 1 path mask (cond (nat_le knt (length xs)) (Ok (take knt xs)) (Err (fault Slim 0)))
+
+  abbrev pub kall_univ : List ℕ → Plan Frame (Plain E)
+  kall_univ path = making 2 path None (Ok [])
+
+  abbrev pub kall_putdata : List ℕ → ℕ → ℕ → List E → Plan (World E) (Plain E)
+  kall_putdata path disp knt xs w =
+      after (write_at rule p putrts path w.frame) λ c.
+      after (overwritten disp knt xs (w.elements c.name)) λ ys.
+      Ok (record { value = pos 0; edits = fill c.name ys ∷ [] })
+
+  abbrev pub kall_addata : List ℕ → ℕ → List E → Plan (World E) (Plain E)
+  kall_addata path knt xs w =
+      after (write_at rule p addrrts path w.frame) λ c.
+      after (part_limit c.name w.frame) λ most.
+      after (lengthened knt most xs (w.elements c.name)) λ ys.
+      Ok (record { value = pos 0; edits = fill c.name ys ∷ [] })
+
+  abbrev pub kall_erase : List ℕ → Plan Frame (Plain E)
+  kall_erase path = do
+    c ← write_at rule p eraserts path
+    done (pos 0) (finish c.name ∷ [])
+
 -- a kall's name, as it is printed
 abbrev pub kall_name : Kall → List ℕ
 kall_name Lenth = codes "LENTH"
 kall_name (Clenth path) = codes "CLENTH"
 kall_name (Dlenth path) = codes "DLENTH"
-kall_name (Getdata path disp knt) = codes "GETDATA"
+kall_name (Getdata k) = codes "GETDATA"
 kall_name (Load k) = codes "LOAD"
 kall_name (Pass k) = codes "PASS"
 kall_name (Take k) = codes "TAKE"
@@ -284,6 +356,11 @@ kall_name (Append k) = codes "APPEND"
 kall_name (Passappend k) = codes "PASSAPPEND"
 kall_name (Delete path) = codes "DELETE"
 kall_name (Interchange k) = codes "INTERCHANGE"
+kall_name (Data path knt mask) = codes "DATA"
+kall_name (Univ path) = codes "UNIV"
+kall_name (Putdata k) = codes "PUTDATA"
+kall_name (Addata path knt) = codes "ADDATA"
+kall_name (Erase path) = codes "ERASE"
 
 -- a kall that leaves the buffer alone
 abbrev pub plain : {E : Type 0} → Result (Plain E) Fault → Result (Outcome E) Fault
@@ -294,7 +371,7 @@ abbrev pub plan : {E : Type 0} → Rule → ℕ → Kall → List E → Plan (Wo
 plan rule p Lenth xs w = plain (kall_lenth rule p w.frame)
 plan rule p (Clenth path) xs w = plain (kall_clenth rule p (vec_items path) w.frame)
 plan rule p (Dlenth path) xs w = plain (kall_dlenth rule p (vec_items path) w)
-plan rule p (Getdata path disp knt) xs w = kall_getdata rule p (vec_items path) disp knt xs w
+plan rule p (Getdata k) xs w = kall_getdata rule p (vec_items k.path) k.disp k.knt xs w
 plan rule p (Load k) xs w = plain (kall_load rule p k.new (vec_items k.path) w.frame)
 plan rule p (Pass k) xs w = plain (kall_pass rule p (vec_items k.path) k.cur k.mask w.frame)
 plan rule p (Take k) xs w = plain (kall_take rule p k.new (vec_items k.path) w.frame)
@@ -303,6 +380,11 @@ plan rule p (Append k) xs w = plain (kall_append rule p (vec_items k.path) k.cur
 plan rule p (Passappend k) xs w = plain (kall_passappend rule p (vec_items k.path) k.cur k.mask w.frame)
 plan rule p (Delete path) xs w = plain (kall_delete rule p (vec_items path) w.frame)
 plan rule p (Interchange k) xs w = plain (kall_interchange rule p (vec_items k.path) k.cur k.mask w.frame)
+plan rule p (Data path knt mask) xs w = plain (kall_data rule p (vec_items path) knt mask xs w.frame)
+plan rule p (Univ path) xs w = plain (kall_univ rule p (vec_items path) w.frame)
+plan rule p (Putdata k) xs w = plain (kall_putdata rule p (vec_items k.path) k.disp k.knt xs w)
+plan rule p (Addata path knt) xs w = plain (kall_addata rule p (vec_items path) knt xs w)
+plan rule p (Erase path) xs w = plain (kall_erase rule p (vec_items path) w.frame)
 
 -- how a kall ends that leaves the buffer alone: a fault changes nothing
 pub record Ending (E : Type 0) : Type 0 where

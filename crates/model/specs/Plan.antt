@@ -35,8 +35,9 @@ abbrev pub task_runs : Option Task → Result (Unit {0}) Fault
 task_runs None = Err (fault Sproc 0)
 task_runs (Some t) = cond t.running (Ok tt) (Err (fault Sstop 0))
 
+-- and it is no process 0
 unfoldable pub runs : ℕ → Plan Frame (Unit {0})
-runs p f = task_runs (f.process p)
+runs p f = cond (p == 0) (Err (fault Sproc 0)) (task_runs (f.process p))
 
 -- a mask that is given is a valid code
 abbrev pub code_ok : Rule → ℕ → Result (Unit {0}) Fault
@@ -65,6 +66,10 @@ limits kind =
 abbrev pub slots_in : Result Limits Fault → ℕ
 slots_in (Ok l) = l.slots
 slots_in (Err e) = 0
+
+abbrev pub elements_in : Result Limits Fault → ℕ
+elements_in (Ok l) = l.elements
+elements_in (Err e) = 0
 
 -- the slots of a list
 abbrev pub room : ℕ → ℕ
@@ -201,3 +206,15 @@ unfoldable pub new_number : ℕ → Plan Frame ℕ
 new_number s f =
     cond (nat_le (places s) (f.living s)) (Err (fault Sroom 0))
     (cond (nat_le 60000 (f.given s)) (Err (fault Snames 0)) (Ok (f.given s + 1)))
+
+-- the number that a new object with these elements gets
+unfoldable pub new_object : {E : Type 0} → ℕ → List E → Plan Frame ℕ
+new_object s xs f = cond (nat_le (length xs) 64) (new_number s f) (Err (fault Slim 0))
+
+-- how many elements an object's data part may have
+abbrev pub most_of : Option Body → ℕ
+most_of None = 0
+most_of (Some b) = elements_in (limits b.kind)
+
+unfoldable pub part_limit : Name → Plan Frame ℕ
+part_limit n f = Ok (most_of (f.object n))

@@ -14,7 +14,7 @@ use Rattle.model.specs.declared.signals.Fault.{Fault}
 use Rattle.model.specs.declared.signals.Signal.TheVariants.{Sproc, Sgone, Slim, Sroom}
 use Rattle.model.specs.Signals.{fault}
 use Rattle.model.specs.Model.{Body, Task, Frame, World, Rule}
-use Rattle.model.specs.Plan.{Plan, after, ◌>>◌, limits, vacant, lives, new_number, code_ok}
+use Rattle.model.specs.Plan.{Plan, after, ◌>>◌, limits, vacant, lives, code_ok, new_object}
 use Rattle.model.specs.Kalls.{on_process, put_in, make, apply}
 use Rattle.model.specs.Isolation.{Holds, Lists}
 
@@ -43,17 +43,13 @@ enrol f = after (unenrolled f.process 8 1) λ p. Ok (record { value = p; after =
 abbrev pub fits : ℕ → ℕ → Limits → Result (Unit {0}) Fault
 fits count given l = cond (nat_le count l.elements && nat_le count given) (Ok tt) (Err (fault Slim 0))
 
--- a new object of the share, with its elements
-unfoldable pub creating : {E : Type 0} → ℕ → ℕ → List E → Plan (World E) (Change (World E))
-creating s kind xs w =
-    cond (nat_le (length xs) 64) (after (new_number s w.frame) λ n. Ok (record { value = n; after = apply s (make kind xs) w })) (Err (fault Slim 0))
-
 -- MAKE: a house object of a type, with the buffer's first elements
 abbrev pub furnish : {E : Type 0} → ℕ → ℕ → List E → Plan (World E) (Change (World E))
 furnish kind count xs w =
     after (limits kind) λ l.
     after (fits count (length xs) l) λ _.
-    creating 0 kind (take count xs) w
+    after (new_object 0 (take count xs) w.frame) λ n.
+    Ok (record { value = n; after = apply 0 (make kind (take count xs)) w })
 
 abbrev pub house : ℕ → Name
 house n = record { share = 0; number = n }
@@ -141,3 +137,8 @@ SetsAll (Err e) w w' m = (Err e ≡ m) × (w' ≡ w)
 -- RECKON: how many objects of each share live
 abbrev pub reckoning : Frame → List ℕ
 reckoning f = map f.living (0 ∷ 1 ∷ 2 ∷ 3 ∷ 4 ∷ 5 ∷ 6 ∷ 7 ∷ 8 ∷ [])
+
+-- what making an object answers, and does to the scene
+abbrev pub Creates : {E : Type 0} → ℕ → ℕ → List E → World E → World E → Result ℕ Fault → Type 0
+Creates s kind xs w w' (Ok n) = (Ok n ≡ new_object s xs w.frame) × (w' ≡ apply s (make kind xs) w)
+Creates s kind xs w w' (Err e) = (Err e ≡ new_object s xs w.frame) × (w' ≡ w)

@@ -102,6 +102,14 @@ pub struct Fetch {
     pub path: Vec<u32>,
 }
 
+// A block of a data part, from its element `disp` on.
+#[derive(Drop)]
+pub struct Block {
+    pub path: Vec<u32>,
+    pub disp: u32,
+    pub knt: u32,
+}
+
 // A slot of the name space that goes where a path ends, under a mask or none.
 #[derive(Drop)]
 pub struct Move {
@@ -115,7 +123,7 @@ pub enum Kall {
     Lenth,
     Clenth(Vec<u32>),
     Dlenth(Vec<u32>),
-    Getdata { path: Vec<u32>, disp: u32, knt: u32 },
+    Getdata(Block),
     Load(Fetch),
     Pass(Move),
     Take(Fetch),
@@ -124,6 +132,18 @@ pub enum Kall {
     Passappend(Move),
     Delete(Vec<u32>),
     Interchange(Move),
+    Data {
+        path: Vec<u32>,
+        knt: u32,
+        mask: Option<u32>,
+    },
+    Univ(Vec<u32>),
+    Putdata(Block),
+    Addata {
+        path: Vec<u32>,
+        knt: u32,
+    },
+    Erase(Vec<u32>),
 }
 
 // What a process asks for, with its own buffer if it has one; the answer comes with
@@ -159,7 +179,7 @@ impl fmt::Display for Kall {
             Kall::Lenth => "LENTH",
             Kall::Clenth(_) => "CLENTH",
             Kall::Dlenth(_) => "DLENTH",
-            Kall::Getdata { .. } => "GETDATA",
+            Kall::Getdata(_) => "GETDATA",
             Kall::Load(_) => "LOAD",
             Kall::Pass(_) => "PASS",
             Kall::Take(_) => "TAKE",
@@ -168,6 +188,11 @@ impl fmt::Display for Kall {
             Kall::Passappend(_) => "PASSAPPEND",
             Kall::Delete(_) => "DELETE",
             Kall::Interchange(_) => "INTERCHANGE",
+            Kall::Data { .. } => "DATA",
+            Kall::Univ(_) => "UNIV",
+            Kall::Putdata(_) => "PUTDATA",
+            Kall::Addata { .. } => "ADDATA",
+            Kall::Erase(_) => "ERASE",
         })
     }
 }

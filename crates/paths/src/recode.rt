@@ -5,7 +5,7 @@ ghost use Rattle.model.specs.Kalls.{masked, confined, recode, changed};
 use model::kinds::{Cap, Change, Form, Slot};
 use rights::rule::RightsRule;
 
-fn masked<R: RightsRule>(rule: &R, mask: Option<u32>, code: u32) -> u32
+pub fn masked<R: RightsRule>(rule: &R, mask: Option<u32>, code: u32) -> u32
     ensures { result ≡ masked R.RightsRule.rule mask code }
 {
     match mask {

@@ -13,7 +13,8 @@ use scene::opened::{Scene, Slip};
 use scene::tables::Tables;
 use shelf::traits::ReadableShelf;
 
-pub(crate) fn part_length<S: ReadableShelf>(tables: &Tables, shelf: &mut S, name: Name) -> usize
+// How many elements an object's data part has.
+pub fn part_length<S: ReadableShelf>(tables: &Tables, shelf: &mut S, name: Name) -> usize
     ensures same { S.ReadableShelf.holds shelf.new ≡ S.ReadableShelf.holds shelf.old }
     ensures value { result ≡ length ((world tables.now (S.ReadableShelf.holds shelf.old)).elements name) }
     ensures bound { result ≤ 64 }

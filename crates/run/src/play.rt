@@ -6,7 +6,8 @@ ghost use Rattle.model.specs.Isolation.{Isolates};
 ghost use Rattle.scene.specs.Abstract.{world};
 ghost use Rattle.run.specs.Play.{ask, view, has_buffer, told, played, afterwards, LiesOn};
 
-use model::kinds::{Fetch, Kall, Move, Request};
+use making::makes::{data, erase, univ};
+use model::kinds::{Block, Fetch, Kall, Move, Request};
 use model::signals::Fault;
 use moving::moves::{delete, interchange, pass, take};
 use reading::data::getdata;
@@ -17,6 +18,7 @@ use scene::opened::{Reckoning, Scene, Slip, open, reckon};
 use scene::setup::SetUp;
 use shelf::traits::WritableShelf;
 use storing::stores::{append, passappend, store};
+use writing::writes::{addata, putdata};
 
 // Each kind of kall has arguments of its own.
 fn perform<R: RightsRule, S: WritableShelf>(
@@ -33,7 +35,7 @@ fn perform<R: RightsRule, S: WritableShelf>(
         Kall::Lenth => lenth(scene, slip, shelf, process),
         Kall::Clenth(path) => clenth(scene, slip, shelf, process, path),
         Kall::Dlenth(path) => dlenth(scene, slip, shelf, process, path),
-        Kall::Getdata { path, disp, knt } => {
+        Kall::Getdata(Block { path, disp, knt }) => {
             getdata(scene, slip, shelf, process, path, *disp, *knt, buffer)
         }
         Kall::Load(Fetch { new, path }) => load(scene, slip, shelf, process, *new, path),
@@ -54,6 +56,15 @@ fn perform<R: RightsRule, S: WritableShelf>(
         Kall::Interchange(Move { path, cur, mask }) => {
             interchange(scene, slip, shelf, process, path, *cur, *mask)
         }
+        Kall::Data { path, knt, mask } => {
+            data(scene, slip, shelf, process, path, *knt, *mask, buffer)
+        }
+        Kall::Univ(path) => univ(scene, slip, shelf, process, path),
+        Kall::Putdata(Block { path, disp, knt }) => {
+            putdata(scene, slip, shelf, process, path, *disp, *knt, buffer)
+        }
+        Kall::Addata { path, knt } => addata(scene, slip, shelf, process, path, *knt, buffer),
+        Kall::Erase(path) => erase(scene, slip, shelf, process, path),
     }
 }
 

@@ -6,7 +6,7 @@ use Rattle.model.specs.declared.kinds.Name.{Name}
 use Rattle.model.specs.declared.kinds.Slot.{Slot}
 use Rattle.model.specs.Model.{Body}
 use Rattle.std.specs.Option.{option_map_or}
-use Rattle.model.specs.Plan.{places, lives, last_filled, list_of}
+use Rattle.model.specs.Plan.{places, lives, limits, elements_in, most_of, last_filled, list_of}
 use Rattle.model.specs.Kalls.{same_name, on_object, lifted, relisted, put_listed}
 use Rattle.scene.specs.declared.kinds.Object.{Object}
 use Rattle.scene.specs.declared.kinds.Process.{Process}
@@ -125,3 +125,7 @@ pub listed : (b : Option Body) → option_map_or (λ (b : Body). last_filled b.l
 unfolding last_filled
 listed None = refl
 listed (Some b) = refl
+
+pub allowed : (b : Option Body) → option_map_or (λ (b : Body). elements_in (limits b.kind)) b 0 ≡ most_of b
+allowed None = refl
+allowed (Some b) = refl

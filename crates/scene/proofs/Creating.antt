@@ -7,10 +7,10 @@ use Rattle.model.specs.declared.kinds.Name.{Name}
 use Rattle.model.specs.declared.signals.Fault.{Fault}
 use Rattle.model.specs.declared.signals.Signal.TheVariants.{Slim, Sroom, Snames}
 use Rattle.model.specs.Signals.{fault}
-use Rattle.model.specs.Model.{Frame, World}
-use Rattle.model.specs.Plan.{after, places, new_number}
+use Rattle.model.specs.Model.{Frame}
+use Rattle.model.specs.Plan.{places, new_number, new_object}
 use Rattle.model.specs.Kalls.{same_name, made, refilled, make, apply}
-use Rattle.model.specs.SetUp.{Change, SetsAll, creating}
+use Rattle.model.specs.SetUp.{Creates}
 use Rattle.shelf.specs.Places.{with_place}
 use Rattle.scene.specs.declared.tables.Tables.{Tables}
 use Rattle.scene.specs.declared.kinds.Spot.{Spot}
@@ -49,27 +49,22 @@ module _ {E : Type 0} (t t' : Tables) (h h' : ℕ → List E) (s kind : ℕ) (xs
       (refills (record { share = s; number = m.number }) m.place xs h (homes t) k.3
       ∙ ap (λ (n : ℕ). refilled (record { share = s; number = n }) xs (λ m. elements_at h (homes t m))) (number_is s m.number (frame t) k.0))
 
-  pub created : (m : Spot) → Makes s kind t t' (Ok m) → Ok h' ≡ filled m.place xs h
-      → ◌≡◌ {A = Result (Change (World E)) Fault} (Ok (record { value = m.number; after = world t' h' })) (creating s kind xs (world t h))
-  unfolding creating
+  pub created : (m : Spot) → Makes s kind t t' (Ok m) → Ok h' ≡ filled m.place xs h → Creates s kind xs (world t h) (world t' h') (Ok m.number)
+  unfolding new_object
   created m k f =
       let on : h' ≡ with_place m.place xs h = let r : Ok h' ≡ Ok (with_place m.place xs h) = f ∙ fills m k in cc in
-      rw (le-leb (length xs) 64 few)
-      (ap (λ (w : World E). Ok (record { value = m.number; after = w })) (whole m k on)
-      ∙ ap (λ (u : Result ℕ Fault). after u (λ n. Ok (record { value = n; after = apply s (make kind xs) (world t h) }))) k.0)
+      (rw (le-leb (length xs) 64 few) k.0, whole m k on)
 
   pub not_filled : (m : Spot) (e : Fault) → Makes s kind t t' (Ok m) → Err e ≡ filled m.place xs h → ⊥
   not_filled m e k q = not_ok (q ∙ fills m k)
 
-  pub not_made : (r : Result ℕ Fault) (e : Fault) → IsErrAnd r (λ y. y ≡ e) → Makes s kind t t' (Err e) → h' ≡ h → SetsAll r (world t h) (world t' h') (creating s kind xs (world t h))
-  unfolding creating
+  pub not_made : (r : Result ℕ Fault) (e : Fault) → IsErrAnd r (λ y. y ≡ e) → Makes s kind t t' (Err e) → h' ≡ h → Creates s kind xs (world t h) (world t' h') r
+  unfolding new_object
   not_made r e q k same =
       let p = err_from_is_err_and r q in
-      subst (λ (x : Result ℕ Fault). SetsAll x (world t h) (world t' h') (creating s kind xs (world t h))) (sym (p.1 ∙ ap Err p.2)) (
-        rw (le-leb (length xs) 64 few) (ap (λ (u : Result ℕ Fault). after u (λ n. Ok (record { value = n; after = apply s (make kind xs) (world t h) }))) k.0),
-        λ j. record { frame = k.1 j; elements = λ n. elements_at (same j) (k.2 j n) },
-      )
+      subst (λ (x : Result ℕ Fault). Creates s kind xs (world t h) (world t' h') x) (sym (p.1 ∙ ap Err p.2))
+      (rw (le-leb (length xs) 64 few) k.0, λ j. record { frame = k.1 j; elements = λ n. elements_at (same j) (k.2 j n) })
 
-pub over_long : {E : Type 0} (s kind : ℕ) (xs : List E) (w : World E) → 64 < length xs → Err (fault Slim 0) ≡ creating s kind xs w
-unfolding creating
-over_long s kind xs w l = rw (lt-leb (length xs) 64 l)
+pub over_long : {E : Type 0} (s : ℕ) (xs : List E) (f : Frame) → 64 < length xs → Err (fault Slim 0) ≡ new_object s xs f
+unfolding new_object
+over_long s xs f l = rw (lt-leb (length xs) 64 l)

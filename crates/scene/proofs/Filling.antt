@@ -12,11 +12,11 @@ pub not_ok : {A : Type 0} {x : A} {e : Fault} → ◌≡◌ {A = Result A Fault}
 not_ok q = let z : ◌≡◌ {A = ℕ} 0 1 = cc in omega arith
 
 module _ {E : Type 0} (p : ℕ) (h : ℕ → List E) where
-  here : (xs : List E) → with_place p xs h p ≡ xs
+  pub here : (xs : List E) → with_place p xs h p ≡ xs
   unfolding with_place
   here xs = rw (eq-eqb p p refl)
 
-  again : (xs ys : List E) → with_place p xs (with_place p ys h) ≡ with_place p xs h
+  pub again : (xs ys : List E) → with_place p xs (with_place p ys h) ≡ with_place p xs h
   unfolding with_place
   again xs ys = fun_ext (λ q. ⊎_elim (λ t. rw t) (λ t. rw t) (cases_Bool (eqb q p)))
 

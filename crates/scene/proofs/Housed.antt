@@ -4,9 +4,9 @@ use Rattle.model.specs.declared.signals.Fault.{Fault}
 use Rattle.model.specs.declared.signals.Signal.TheVariants.{Slim}
 use Rattle.model.specs.Signals.{fault}
 use Rattle.model.specs.Model.{Frame, World}
-use Rattle.model.specs.Plan.{after, new_number}
-use Rattle.model.specs.Kalls.{on_process, made, make, apply}
-use Rattle.model.specs.SetUp.{HouseObjects, HouseHeld, HouseListed, Change, Sets, SetsAll, creating, enrol, unenrolled, newcomer}
+use Rattle.model.specs.Plan.{after}
+use Rattle.model.specs.Kalls.{on_process, made}
+use Rattle.model.specs.SetUp.{HouseObjects, HouseHeld, HouseListed, Change, Sets, Creates, enrol, unenrolled, newcomer}
 use Rattle.scene.proofs.Filling.{not_ok}
 use Rattle.model.proofs.Opened.{Opened, opened_enrolled, opened_made}
 
@@ -27,16 +27,6 @@ enrol_housed (Ok v) f f' h h' o s = go (unenrolled f.process 8 1) s.0
         let e : f' ≡ on_process p (λ _. newcomer) f = ap (λ (x : Change Frame). x.after) r in
         housed (on_process p (λ _. newcomer) f) f' e (opened_enrolled o p)
 
-pub create_housed : {E : Type 0} (r : Result ℕ Fault) (kind : ℕ) (xs : List E) (w w' : World E) → Opened w.frame → SetsAll r w w' (creating 0 kind xs w) → Housed w'.frame
-unfolding creating
+pub create_housed : {E : Type 0} (r : Result ℕ Fault) (kind : ℕ) (xs : List E) (w w' : World E) → Opened w.frame → Creates 0 kind xs w w' r → Housed w'.frame
 create_housed (Err e) kind xs w w' o s = housed w.frame w'.frame (ap (λ x. x.frame) s.1) o
-create_housed {E} (Ok v) kind xs w w' o s = go (leb (length xs) 64) (new_number 0 w.frame) s
-  where
-    go : (b : Bool) (u : Result ℕ Fault)
-        → ◌≡◌ {A = Result (Change (World E)) Fault} (Ok (record { value = v; after = w' })) (cond b (after u (λ n. Ok (record { value = n; after = apply 0 (make kind xs) w }))) (Err (fault Slim 0)))
-        → Housed w'.frame
-    go false u q = absurd (not_ok (sym q))
-    go true (Err e) q = absurd (not_ok (sym q))
-    go true (Ok n) q =
-        let r : ◌≡◌ {A = Change (World E)} (record { value = v; after = w' }) (record { value = n; after = apply 0 (make kind xs) w }) = cc in
-        housed (made 0 kind w.frame) w'.frame (ap (λ x. x.after.frame) r) (opened_made o kind)
+create_housed (Ok v) kind xs w w' o s = housed (made 0 kind w.frame) w'.frame (ap (λ x. x.frame) s.1) (opened_made o kind)

@@ -8,6 +8,7 @@ pub mod Making
 pub mod Ending
 pub mod Housed
 pub mod Filling
+pub mod Homes
 pub mod Creating
 pub mod Processes
 pub mod Fresh

@@ -1,19 +1,20 @@
 -- Processes, and their name spaces.
-use Rattle.std.proofs.Common.{◌≡◌, ℕ, zero, suc, ◌+◌, ◌-◌, ◌<◌, ◌≤◌, true, false, ◌&&◌, leb, ◌≢◌, List, [], ◌∷◌, length, get_or, set, take, drop, reverse, Some, None, Ok, Err, Option, Result, position, is_none, is_some, option_map, option_and_then, slice_get, sym, refl, ap, ◌∙◌, arith, get_or-set_other, get_or-set_same}
+use Rattle.std.proofs.Common.{◌≡◌, ℕ, zero, suc, ◌+◌, ◌-◌, ◌<◌, ◌≤◌, true, false, cond, ◌&&◌, ◌==◌, leb, ◌≢◌, List, [], ◌∷◌, length, get_or, set, take, drop, reverse, Some, None, Ok, Err, Option, Result, position, is_none, is_some, option_map, option_and_then, slice_get, sym, refl, ap, ◌∙◌, arith, get_or-set_other, get_or-set_same}
 use Rattle.std.specs.List.{refill}
 use Rattle.std.specs.Option.{option_map_or}
 use Rattle.std.proofs.lemmas.Bool.{le-leb, leb-true, and_parts, and_from, lt-ltb, le-ltb, false≢true}
 use Rattle.std.proofs.lemmas.List.Sums.{fails_before_first}
-use Rattle.std.proofs.lemmas.Option.{cond_some}
+use Rattle.std.proofs.lemmas.Option.{cond_some, none-some}
+use Rattle.std.proofs.Math.Dec.{eqb-suc-zero}
 use Rattle.std.proofs.lemmas.List.{length-set, take_more, take_all, take-set, take_at, reverse-append, set-get_or, get_or_default}
 use Rattle.std.proofs.lemmas.List.Quantifiers.{position-Some}
 use Rattle.model.specs.declared.kinds.Slot.{Slot}
 use Rattle.model.specs.declared.kinds.Space.{Space}
 use Rattle.model.specs.declared.signals.Fault.{Fault}
-use Rattle.model.specs.declared.signals.Signal.TheVariants.{Sroom}
+use Rattle.model.specs.declared.signals.Signal.TheVariants.{Sproc, Sstop, Sroom}
 use Rattle.model.specs.Signals.{fault}
 use Rattle.model.specs.Model.{Task}
-use Rattle.model.specs.Plan.{top_slots, last_filled}
+use Rattle.model.specs.Plan.{top_slots, last_filled, task_runs}
 use Rattle.model.specs.Kalls.{put_top, lifted, respaced, on_process, put_own}
 use Rattle.model.specs.SetUp.{unenrolled, or_later, newcomer}
 use Rattle.scene.specs.declared.kinds.Object.{Object}
@@ -210,3 +211,10 @@ pub enrolled_frame : (objects : List (Option Object)) (slots : List Slot) (given
 enrolled_frame objects slots given ps i t long l new =
     process_frame ps objects slots given (i + 1) (λ _. newcomer) i (Some t) (index_at i l)
     (process_at (set ps i (Some t)) (i + 1) i (index_at i l) ∙ ap (option_map task_of) (get_or-set_same ps i (Some t) None (omega arith)) ∙ new)
+
+-- whoever is enrolled runs or is stopped, and is not process 0
+pub runs_is : (ps : List (Option Process)) (p : ℕ) (t : Task) → Some t ≡ process_of ps p
+    → cond (p == 0) (Err (fault Sproc 0)) (task_runs (process_of ps p)) ≡ cond t.running (Ok tt) (Err (fault Sstop 0))
+unfolding process_of
+runs_is ps zero t e = absurd (none-some t (sym e))
+runs_is ps (suc p) t e = rw (eqb-suc-zero p) (ap task_runs (sym e))

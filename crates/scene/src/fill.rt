@@ -1,6 +1,6 @@
 ghost use Rattle.std.specs.Prelude.{◌≡◌, ◌≤◌, length};
 ghost use Rattle.shelf.specs.Places.{Writes};
-ghost use Rattle.model.specs.SetUp.{SetsAll, creating};
+ghost use Rattle.model.specs.SetUp.{Creates};
 ghost use Rattle.scene.specs.Abstract.{world};
 ghost use Rattle.scene.specs.Fill.{filled};
 
@@ -28,7 +28,7 @@ pub fn create<S: WritableShelf>(
     kind: u32,
     elements: &[S::Element],
 ) -> Result<u32, Fault>
-    ensures { SetsAll result (world tables.old (S.ReadableShelf.holds shelf.old)) (world tables.new (S.ReadableShelf.holds shelf.new)) (creating share kind elements.now (world tables.old (S.ReadableShelf.holds shelf.old))) }
+    ensures { Creates share kind elements.now (world tables.old (S.ReadableShelf.holds shelf.old)) (world tables.new (S.ReadableShelf.holds shelf.new)) result }
 {
     if elements.len() > 64 {
         return Err(Fault::new(Signal::Slim, 0));

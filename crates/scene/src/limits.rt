@@ -1,7 +1,7 @@
 // What an object's type allows it. A type is a number and no enum, since set-up may name
 // any, and those from 16 to 255 are the user's.
 ghost use Rattle.std.specs.Prelude.{◌≡◌, ◌≤◌};
-ghost use Rattle.model.specs.Plan.{limits, room};
+ghost use Rattle.model.specs.Plan.{limits, room, elements_in};
 
 use model::kinds::Limits;
 use model::signals::{Fault, Signal};
@@ -39,4 +39,12 @@ pub(crate) fn room(kind: u32) -> usize
     ensures bound { result ≤ 8 }
 {
     limits(kind).map_or(0, |limits| limits.slots)
+}
+
+// How many elements its data part may have.
+pub(crate) fn part_room(kind: u32) -> usize
+    ensures value { result ≡ elements_in (limits kind) }
+    ensures bound { result ≤ 64 }
+{
+    limits(kind).map_or(0, |limits| limits.elements)
 }

@@ -1,7 +1,8 @@
 // The object layer: what is read from the tables and written to them, by name.
-ghost use Rattle.std.specs.Prelude.{◌≡◌, ◌-◌, ◌<◌, ◌≤◌, length, replicate, position, is_none, IfSome, option_map, slice_get, Ok, None};
+ghost use Rattle.std.specs.Prelude.{◌≡◌, ◌-◌, ◌<◌, ◌≤◌, length, replicate, position, is_none, IfSome, option_map, slice_get, Ok, None, Some};
+ghost use Rattle.model.specs.declared.kinds.Name.{Name};
 ghost use Rattle.model.specs.declared.kinds.Slot.TheVariants.{Empty};
-ghost use Rattle.model.specs.Plan.{slot_of, own_slot, slot_at, runs, vacant, lives, last_filled, length_of, list_length, next_slot, spaces_of};
+ghost use Rattle.model.specs.Plan.{slot_of, own_slot, slot_at, runs, vacant, lives, last_filled, length_of, list_length, next_slot, spaces_of, part_limit};
 ghost use Rattle.model.specs.Kalls.{put_own, put_listed, put_in};
 ghost use Rattle.model.specs.SetUp.{bare, enrol, enrolled, owned, living};
 ghost use Rattle.scene.specs.Places.{base_of, part_of, placed, is_numbered, place_of};
@@ -9,7 +10,7 @@ ghost use Rattle.scene.specs.Abstract.{frame, homes, IsLastFilled, object_of, pr
 ghost use Rattle.scene.specs.Tasks.{task_of, index_of};
 
 use crate::kinds::{Body, Object, Process, Spot, State};
-use crate::limits::room;
+use crate::limits::{part_room, room};
 use crate::tables::Tables;
 use model::kinds::{EMPTY, Holder, Name, Owner, Site, Slot, Space};
 use model::signals::{Fault, Signal};
@@ -239,6 +240,15 @@ impl Tables {
         self.body(name).map_or(0, |body| last_filled(body.list))
     }
 
+    // How many elements an object's data part may have.
+    #[tactic(auto, unfolding(model::specs::Plan::part_limit))]
+    pub fn part_limit(&self, name: Name) -> usize
+        ensures value { Ok result ≡ part_limit name (frame self.now) }
+        ensures bound { result ≤ 64 }
+    {
+        self.body(name).map_or(0, |body| part_room(body.kind))
+    }
+
     // The object and its list end, and its place serves again.
     pub fn end(&mut self, name: Name) -> Result<(), Fault>
         ensures { Ends name self.old self.new result }
@@ -261,11 +271,12 @@ impl Tables {
         Ok(length as u32 + 1)
     }
 
-    // Where on the shelf an object's elements lie.
+    // Where on the shelf an object's elements lie, and those of no other.
     #[tactic(auto, unfolding(crate::specs::Abstract::home_of))]
     pub fn home(&self, name: Name) -> Option<usize>
         ensures value { result ≡ homes self.now name }
         ensures within { IfSome result (λ p. (1 ≤ p) × (p ≤ 160)) }
+        ensures alone { IfSome result (λ p. (n : Name) → Some p ≡ homes self.now n → n ≡ name) }
     {
         self.find(name).map(|place| place + 1)
     }

@@ -1,7 +1,7 @@
 // The kalls, by their names and arguments.
 use crate::number::number;
 use crate::wrong::Wrong;
-use model::kinds::{Fetch, Kall, Move};
+use model::kinds::{Block, Fetch, Kall, Move};
 use std::alloc::Global;
 
 // Indexes joined by dots; a dash is the path with none.
@@ -26,11 +26,34 @@ fn path_alone(heap: Global, words: &[&str]) -> Result<Vec<u32>, Wrong> {
     }
 }
 
-fn getdata(heap: Global, words: &[&str]) -> Result<Kall, Wrong> {
+fn block(heap: Global, words: &[&str]) -> Result<Block, Wrong> {
     match words {
-        [path, disp, knt] => Ok(Kall::Getdata {
+        [path, disp, knt] => Ok(Block {
             path: read_path(heap, path)?,
             disp: number(disp)?,
+            knt: number(knt)?,
+        }),
+        _ => Err(Wrong::Form),
+    }
+}
+
+fn data(heap: Global, words: &[&str]) -> Result<Kall, Wrong> {
+    let (path, knt, mask) = match words {
+        [path, knt] => (path, knt, None),
+        [path, knt, "mask", mask] => (path, knt, Some(number(mask)?)),
+        _ => return Err(Wrong::Form),
+    };
+    Ok(Kall::Data {
+        path: read_path(heap, path)?,
+        knt: number(knt)?,
+        mask,
+    })
+}
+
+fn addata(heap: Global, words: &[&str]) -> Result<Kall, Wrong> {
+    match words {
+        [path, knt] => Ok(Kall::Addata {
+            path: read_path(heap, path)?,
             knt: number(knt)?,
         }),
         _ => Err(Wrong::Form),
@@ -66,7 +89,7 @@ pub(crate) fn read_kall(heap: Global, name: &str, words: &[&str]) -> Result<Kall
         "LENTH" => lenth(words),
         "CLENTH" => path_alone(heap, words).map(Kall::Clenth),
         "DLENTH" => path_alone(heap, words).map(Kall::Dlenth),
-        "GETDATA" => getdata(heap, words),
+        "GETDATA" => block(heap, words).map(Kall::Getdata),
         "LOAD" => fetch(heap, words).map(Kall::Load),
         "PASS" => moved(heap, words).map(Kall::Pass),
         "TAKE" => fetch(heap, words).map(Kall::Take),
@@ -75,6 +98,11 @@ pub(crate) fn read_kall(heap: Global, name: &str, words: &[&str]) -> Result<Kall
         "PASSAPPEND" => moved(heap, words).map(Kall::Passappend),
         "DELETE" => path_alone(heap, words).map(Kall::Delete),
         "INTERCHANGE" => moved(heap, words).map(Kall::Interchange),
+        "DATA" => data(heap, words),
+        "UNIV" => path_alone(heap, words).map(Kall::Univ),
+        "PUTDATA" => block(heap, words).map(Kall::Putdata),
+        "ADDATA" => addata(heap, words),
+        "ERASE" => path_alone(heap, words).map(Kall::Erase),
         _ => Err(Wrong::Form),
     }
 }

@@ -1,11 +1,11 @@
 use Rattle.std.proofs.Common.{Err, refl, ap, ◌∙◌}
-use Rattle.scene.specs.Abstract.{world}
+use Rattle.scene.specs.Abstract.{frame}
 use Rattle.scene.proofs.Creating.{created, not_filled, not_made, over_long}
 use Rattle.scene.proofs.fill.create.Goals as goal
 
 pub returns-then-elements-gt64 : goal.returns-then-elements-gt64
 returns-then-elements-gt64 g c =
-    (ap Err c.new.ensures ∙ over_long c.args.share c.args.kind c.args.elements.now (world c.args.tables.now (g.S.ReadableShelf.holds c.args.shelf.now)) c.if-elements-gt64.true, refl)
+    (ap Err c.new.ensures ∙ over_long c.args.share c.args.elements.now (frame c.args.tables.now) c.if-elements-gt64.true, refl)
 
 pub returns-in_err-spot : goal.returns-in_err-spot
 returns-in_err-spot g c =
