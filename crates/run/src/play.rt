@@ -7,7 +7,7 @@ ghost use Rattle.scene.specs.Abstract.{world};
 ghost use Rattle.run.specs.Play.{ask, view, has_buffer, told, played, afterwards, LiesOn};
 
 use making::makes::{data, erase, univ};
-use model::kinds::{Block, Fetch, Kall, Move, Request};
+use model::kinds::{Kall, Request};
 use model::signals::Fault;
 use moving::moves::{delete, interchange, pass, take};
 use reading::data::getdata;
@@ -35,34 +35,20 @@ fn perform<R: RightsRule, S: WritableShelf>(
         Kall::Lenth => lenth(scene, slip, shelf, process),
         Kall::Clenth(path) => clenth(scene, slip, shelf, process, path),
         Kall::Dlenth(path) => dlenth(scene, slip, shelf, process, path),
-        Kall::Getdata(Block { path, disp, knt }) => {
-            getdata(scene, slip, shelf, process, path, *disp, *knt, buffer)
-        }
-        Kall::Load(Fetch { new, path }) => load(scene, slip, shelf, process, *new, path),
-        Kall::Pass(Move { path, cur, mask }) => {
-            pass(scene, slip, shelf, process, path, *cur, *mask)
-        }
-        Kall::Take(Fetch { new, path }) => take(scene, slip, shelf, process, *new, path),
-        Kall::Store(Move { path, cur, mask }) => {
-            store(scene, slip, shelf, process, path, *cur, *mask)
-        }
-        Kall::Append(Move { path, cur, mask }) => {
-            append(scene, slip, shelf, process, path, *cur, *mask)
-        }
-        Kall::Passappend(Move { path, cur, mask }) => {
-            passappend(scene, slip, shelf, process, path, *cur, *mask)
-        }
+        Kall::Getdata(k) => getdata(scene, slip, shelf, process, &k.path, k.disp, k.knt, buffer),
+        Kall::Load(k) => load(scene, slip, shelf, process, k.new, &k.path),
+        Kall::Pass(k) => pass(scene, slip, shelf, process, &k.path, k.cur, k.mask),
+        Kall::Take(k) => take(scene, slip, shelf, process, k.new, &k.path),
+        Kall::Store(k) => store(scene, slip, shelf, process, &k.path, k.cur, k.mask),
+        Kall::Append(k) => append(scene, slip, shelf, process, &k.path, k.cur, k.mask),
+        Kall::Passappend(k) => passappend(scene, slip, shelf, process, &k.path, k.cur, k.mask),
         Kall::Delete(path) => delete(scene, slip, shelf, process, path),
-        Kall::Interchange(Move { path, cur, mask }) => {
-            interchange(scene, slip, shelf, process, path, *cur, *mask)
-        }
+        Kall::Interchange(k) => interchange(scene, slip, shelf, process, &k.path, k.cur, k.mask),
         Kall::Data { path, knt, mask } => {
             data(scene, slip, shelf, process, path, *knt, *mask, buffer)
         }
         Kall::Univ(path) => univ(scene, slip, shelf, process, path),
-        Kall::Putdata(Block { path, disp, knt }) => {
-            putdata(scene, slip, shelf, process, path, *disp, *knt, buffer)
-        }
+        Kall::Putdata(k) => putdata(scene, slip, shelf, process, &k.path, k.disp, k.knt, buffer),
         Kall::Addata { path, knt } => addata(scene, slip, shelf, process, path, *knt, buffer),
         Kall::Erase(path) => erase(scene, slip, shelf, process, path),
     }
