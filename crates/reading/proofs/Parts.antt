@@ -1,9 +1,10 @@
 -- Data parts where they lie on a shelf.
-use Rattle.std.proofs.Common.{◌≡◌, ℕ, zero, suc, ◌+◌, ◌-◌, ◌<◌, ◌≤◌, true, leb, List, [], ◌∷◌, length, get_or, is_ok, Ok, Result, refl, ap, ◌∙◌, arith}
-use Rattle.std.proofs.lemmas.Bool.{le-leb, and_from}
+use Rattle.std.proofs.Common.{◌≡◌, ℕ, zero, suc, ◌+◌, ◌-◌, ◌<◌, ◌≤◌, true, List, [], ◌∷◌, length, get_or, is_ok, Ok, Result, refl, ap, ◌∙◌, arith}
+use Rattle.std.proofs.lemmas.Bool.{le-leb}
 use Rattle.std.proofs.lemmas.Option.{slice_get-get_or}
 use Rattle.std.specs.List.{slice_get}
 use Rattle.model.specs.declared.signals.Fault.{Fault}
+use Rattle.shelf.proofs.Answering.{is_place_of}
 use Rattle.shelf.specs.Places.{is_place, found, length_at, element_at}
 
 is_there : {E : Type 0} (xs : List E) (i : ℕ) → i < length xs → is_ok (found (slice_get xs i)) ≡ true
@@ -12,8 +13,8 @@ is_there (x ∷ xs) zero l = refl
 is_there (x ∷ xs) (suc i) l = is_there xs i (omega arith)
 
 module _ {E : Type 0} (p : ℕ) (low : 1 ≤ p) (high : p ≤ 160) (h : ℕ → List E) where
-  pub a_place : is_place p ≡ true
-  a_place = and_from (leb 1 p) (leb p 160) (le-leb 1 p low) (le-leb p 160 high)
+  a_place : is_place p ≡ true
+  a_place = is_place_of p low high
 
   pub length_told : (n : ℕ) → Ok n ≡ length_at p h → n ≡ length (h p)
   unfolding length_at

@@ -1,9 +1,10 @@
 -- A place written element by element.
 use Rattle.std.proofs.Common.{◌≡◌, ℕ, ◌+◌, ◌-◌, ◌<◌, ◌≤◌, true, eqb, leb, ltb, List, [], ◌∷◌, ◌++◌, length, get_or, take, drop, set, is_ok, Ok, Err, Result, sym, refl, ap, ◌∙◌, ⊎_elim, append_assoc, arith}
 use mathlib.Core.Path.{fun_ext}
-use Rattle.std.proofs.lemmas.Bool.{eqb-true, cases_Bool, le-leb, lt-ltb, and_from}
+use Rattle.std.proofs.lemmas.Bool.{eqb-true, cases_Bool, le-leb, lt-ltb}
 use Rattle.std.proofs.lemmas.List.{take_more, drop_more, set_at, length-take-le, length-drop, take-append-drop, append-nil, length-append}
 use Rattle.model.specs.declared.signals.Fault.{Fault}
+use Rattle.shelf.proofs.Answering.{is_place_of}
 use Rattle.shelf.specs.Places.{is_place, with_place, replaced, appended, Writes}
 use Rattle.scene.proofs.Filling.{not_ok, here, again}
 
@@ -28,7 +29,7 @@ module _ {E : Type 0} (p : ℕ) (h : ℕ → List E) where
 
   module _ (low : 1 ≤ p) (high : p ≤ 160) where
     place : is_place p ≡ true
-    place = and_from (leb 1 p) (leb p 160) (le-leb 1 p low) (le-leb p 160 high)
+    place = is_place_of p low high
 
     module _ (xs : List E) (i : ℕ) (x : E) (more : i < length xs) (is : get_or xs i x ≡ x) where
       next : take (i + 1) xs ≡ take i xs ++ (x ∷ [])
