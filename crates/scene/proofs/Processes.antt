@@ -1,12 +1,11 @@
 -- Processes, and their name spaces.
-use Rattle.std.proofs.Common.{◌≡◌, ℕ, zero, suc, ◌+◌, ◌-◌, ◌<◌, ◌≤◌, true, false, cond, ◌&&◌, ◌==◌, leb, ◌≢◌, List, [], ◌∷◌, length, get_or, set, take, drop, reverse, Some, None, Ok, Err, Option, Result, position, is_none, is_some, option_map, option_and_then, slice_get, sym, refl, ap, ◌∙◌, arith, get_or-set_other, get_or-set_same}
-use Rattle.std.specs.List.{refill}
+use Rattle.std.proofs.Common.{◌≡◌, ℕ, zero, suc, ◌+◌, ◌-◌, ◌<◌, ◌≤◌, true, false, cond, ◌&&◌, ◌==◌, leb, ◌≢◌, List, [], ◌∷◌, length, get_or, set, take, reverse, Some, None, Ok, Err, Option, Result, position, is_none, is_some, option_map, option_and_then, slice_get, sym, refl, ap, ◌∙◌, arith, get_or-set_other, get_or-set_same}
 use Rattle.std.specs.Option.{option_map_or}
 use Rattle.std.proofs.lemmas.Bool.{le-leb, leb-true, and_parts, and_from, lt-ltb, le-ltb, false≢true}
 use Rattle.std.proofs.lemmas.List.Sums.{fails_before_first}
 use Rattle.std.proofs.lemmas.Option.{cond_some, none-some}
 use Rattle.std.proofs.Math.Dec.{eqb-suc-zero}
-use Rattle.std.proofs.lemmas.List.{length-set, take_more, take_all, take-set, take_at, reverse-append, set-get_or, get_or_default}
+use Rattle.std.proofs.lemmas.List.{length-set, take_more, take-set, reverse-append, set-get_or, get_or_default}
 use Rattle.std.proofs.lemmas.List.Quantifiers.{position-Some}
 use Rattle.model.specs.declared.kinds.Slot.{Slot}
 use Rattle.model.specs.declared.kinds.Space.{Space}
@@ -19,7 +18,7 @@ use Rattle.model.specs.Kalls.{put_top, lifted, respaced, on_process, put_own}
 use Rattle.model.specs.SetUp.{unenrolled, or_later, newcomer}
 use Rattle.scene.specs.declared.kinds.Object.{Object}
 use Rattle.scene.specs.declared.kinds.Process.{Process}
-use Rattle.scene.specs.Tasks.{task_of, index_of}
+use Rattle.scene.specs.Tasks.{is_running, task_of, index_of}
 use Rattle.scene.specs.Abstract.{frame_of, object_of, living_of, process_of}
 use Rattle.scene.proofs.Position.{position_past}
 use Rattle.scene.proofs.Changed.{at_number}
@@ -83,36 +82,31 @@ module _ (ps : List (Option Process)) where
     }
 
 -- the newest space comes first
-newest : (xs : List Space) (n : ℕ) (d : Space) → length xs ≡ n + 1 → reverse xs ≡ get_or xs n d ∷ reverse (take n xs)
-newest xs n d l =
-    let m : n < length xs = omega arith in
-    ap reverse (sym (take_all (n + 1) xs (omega arith)) ∙ take_more xs n d m) ∙ reverse-append (take n xs) (get_or xs n d ∷ [])
-
-refilled : (xs ys : List Space) → length ys ≡ length xs → refill (length xs) xs ys ≡ ys
-refilled xs ys l = take_at ys (drop (length ys) xs) (length xs) l
+newest : (xs : List Space) (n : ℕ) (d : Space) → n < length xs → reverse (take (n + 1) xs) ≡ get_or xs n d ∷ reverse (take n xs)
+newest xs n d m = ap reverse (take_more xs n d m) ∙ reverse-append (take n xs) (get_or xs n d ∷ [])
 
 same_top : (i : ℕ) (v : Slot) (xs : List Space) → 12 ≤ i → put_top i v xs ≡ xs
 same_top i v [] h = refl
 same_top i v (s ∷ xs) h = rw (le-ltb i 12 h)
 
 -- no space, and nothing is put
-pub put_nowhere : (old xs : List Space) (i : ℕ) (v : Slot) → xs ≡ old → length xs ≤ 0 → reverse (refill (length old) old xs) ≡ put_top i v (reverse old)
-put_nowhere [] xs i v e l = refl
-put_nowhere (s ∷ old) xs i v e l = absurd (omega (arith, ap length e))
+pub put_nowhere : (xs : List Space) (d i : ℕ) (v : Slot) → (1 ≤ d → ⊥) → reverse (take d xs) ≡ put_top i v (reverse (take d xs))
+put_nowhere xs zero i v none = refl
+put_nowhere xs (suc d) i v none = absurd (none (omega arith))
 
 -- a slot of the newest space is put
-pub put_newest : (old xs : List Space) (s : Space) (i : ℕ) (v : Slot) → xs ≡ old → 0 < length xs → s ≡ get_or xs (length xs - 1) s → i < 12
-    → reverse (refill (length old) old (set xs (length xs - 1) (record { slots = set s.slots i v; back = s.back }))) ≡ put_top i v (reverse old)
-put_newest old xs s i v same more is small =
-    let n : ℕ = length xs - 1 in
-    let l : length xs ≡ n + 1 = omega arith in
-    let new : Space = record { slots = set s.slots i v; back = s.back } in
-    let k : length (set xs n new) ≡ n + 1 = length-set xs n new ∙ l in
-    let top : reverse old ≡ s ∷ reverse (take n xs) = ap reverse (sym same) ∙ newest xs n s l ∙ ap (λ (x : Space). x ∷ reverse (take n xs)) (sym is) in
-    let put : put_top i v (s ∷ reverse (take n xs)) ≡ new ∷ reverse (take n xs) = rw (lt-ltb i 12 small) in
-    ap reverse (refilled old (set xs n new) (length-set xs n new ∙ ap length same))
-    ∙ newest (set xs n new) n s k
-    ∙ rw (get_or-set_same xs n new s (omega arith), take-set xs n new) (sym (ap (put_top i v) top ∙ put))
+pub put_newest : (xs : List Space) (d n i : ℕ) (v : Slot) (x : Space) → 1 ≤ d → n ≡ d - 1 → d ≤ 6 → length xs ≡ 6 → i < 12
+    → reverse (take d (set xs n (record { slots = set (get_or xs n x).slots i v; back = (get_or xs n x).back }))) ≡ put_top i v (reverse (take d xs))
+put_newest xs d n i v x some top deep long small =
+    let e : d ≡ n + 1 = omega arith in
+    let m : n < length xs = omega arith in
+    let old : Space = get_or xs n x in
+    let new : Space = record { slots = set old.slots i v; back = old.back } in
+    let k : length (set xs n new) ≡ length xs = length-set xs n new in
+    let put : put_top i v (old ∷ reverse (take n xs)) ≡ new ∷ reverse (take n xs) = rw (lt-ltb i 12 small) in
+    rw e
+    (newest (set xs n new) n x (omega (arith, k))
+    ∙ rw (get_or-set_same xs n new x m, take-set xs n new) (sym (ap (put_top i v) (newest xs n x m) ∙ put)))
 
 module _ (objects : List (Option Object)) (slots : List Slot) (given : List ℕ) (ps : List (Option Process)) (p i : ℕ) (v : Slot) where
   abbrev on_top : Option Task → Option Task
@@ -139,13 +133,14 @@ module _ (objects : List (Option Object)) (slots : List Slot) (given : List ℕ)
         ap (frame_of objects slots given) (set-get_or ps k x)
         ∙ process_same ps objects slots given p on_top (n ∙ sym (ap on_top n))
 
-    pub put_space : (t : Process) (x : Option Process) (xs : List Space) → length ps ≡ 8 → get_or ps k x ≡ Some t → reverse xs ≡ put_top i v (reverse t.spaces.items)
-        → frame_of objects slots given (set ps k (Some (record { state = t.state; spaces = record { items = xs } }))) ≡ put_own p i v (frame_of objects slots given ps)
+    pub put_space : (t new : Process) (x : Option Process) → length ps ≡ 8 → get_or ps k x ≡ Some t → new.state ≡ t.state
+        → reverse (take new.depth new.spaces) ≡ put_top i v (reverse (take t.depth t.spaces))
+        → frame_of objects slots given (set ps k (Some new)) ≡ put_own p i v (frame_of objects slots given ps)
     unfolding put_own
-    put_space t x xs long here h =
+    put_space t new x long here s h =
         process_frame ps objects slots given p on_top k _ is
         (process_at (set ps k _) p k is ∙ ap (option_map task_of) (get_or-set_same ps k _ None (omega (arith, long, (index p k is).within)))
-        ∙ (λ j. Some (record { running = (task_of t).running; spaces = h j }))
+        ∙ (λ j. Some (record { running = is_running (s j); spaces = h j }))
         ∙ sym (ap on_top (process_at ps p k is ∙ ap (option_map task_of) (get_or_default ps k None x (omega (arith, long, (index p k is).within)) ∙ here))))
 
 -- the length of the current name space

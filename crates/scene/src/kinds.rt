@@ -1,9 +1,6 @@
 // What the tables hold.
-ghost use Rattle.std.specs.Prelude.{◌≡◌, length, Some};
-ghost use Rattle.model.specs.SetUp.{newcomer};
-ghost use Rattle.scene.specs.Tasks.{task_of};
+ghost use Rattle.std.specs.Prelude.{◌≡◌, ◌≤◌, length, Some};
 
-use arrayvec::ArrayVec;
 use model::kinds::{Slot, Space};
 
 // The object at a place.
@@ -27,23 +24,27 @@ pub enum State {
     Stopped,
 }
 
-// A process, with its name spaces from the oldest on.
-#[derive(Clone, Drop)]
+// A process, with its name spaces from the oldest on; those past `depth` are unused.
+#[derive(Clone, Copy)]
 pub struct Process {
     pub state: State,
-    pub spaces: ArrayVec<Space, 6>,
+    pub depth: u8,
+    pub spaces: [Space; 6],
+    ghost deep: { depth ≤ 6 },
 }
 
 impl Process {
+    ghost use Rattle.model.specs.SetUp.{newcomer};
+    ghost use Rattle.scene.specs.Tasks.{task_of};
+
     // A process that runs, with one empty name space.
     pub(crate) fn new() -> Process
         ensures { Some (task_of result) ≡ newcomer }
     {
-        let mut spaces = ArrayVec::new();
-        spaces.push(Space::default());
         Process {
             state: State::Running,
-            spaces,
+            depth: 1,
+            spaces: [Space::default(); 6],
         }
     }
 }

@@ -189,7 +189,8 @@ impl Tables {
     fn current(&self, process: u32) -> Option<&Space>
         ensures { option_map (λ s. s.now) result ≡ slice_get (spaces_of (process_of self.now.processes process)) 0 }
     {
-        self.task(process)?.spaces.as_slice().last()
+        let task = self.task(process)?;
+        task.spaces[..task.depth as usize].last()
     }
 
     // A slot of the current name space, by an index from 0.
@@ -212,13 +213,14 @@ impl Tables {
         let Some(i) = index_of(process) else {
             return;
         };
-        let Some(task) = &mut self.processes[i] else {
+        let processes = &mut self.processes;
+        let Some(task) = &mut processes[i] else {
             return;
         };
-        let Some(space) = task.spaces.as_mut_slice().last_mut() else {
+        let Some(top) = task.depth.checked_sub(1) else {
             return;
         };
-        space.slots[index] = slot;
+        task.spaces[top as usize].slots[index] = slot;
     }
 
     // The length of the current name space.
