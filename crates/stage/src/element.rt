@@ -29,9 +29,12 @@ impl Element for f32 {
     const BLANK: f32 = 0.0;
 
     fn read(word: &str) -> Result<f32, Wrong> {
+        if !looks_decimal(word) {
+            return Err(Wrong::Float);
+        }
         word.parse()
             .ok()
-            .filter(|x: &f32| looks_decimal(word) && x.is_finite())
+            .filter(|x: &f32| x.is_finite())
             .ok_or(Wrong::Float)
     }
 }

@@ -19,6 +19,7 @@ use crate::parse::parse;
 use crate::play::play_script;
 use crate::print::print_script;
 use crate::script::{ElementName, Header, Script, ShelfName};
+use crate::words::space_tabs;
 use crate::wrong::Stop;
 use scene::opened::Reckoning;
 use shelf::cells::Cells;
@@ -64,6 +65,7 @@ fn play_input(rt: &HostRuntime) -> Result<(), Stop> {
     let mut bytes = Vec::new(heap);
     let mut input = rt.stdin();
     input.read_to_end(&mut bytes)?;
+    space_tabs(bytes.as_mut_slice());
     let whole = String::from_utf8_lossy(heap, bytes.as_slice())?;
     let text = whole.as_str();
     let text = text.strip_suffix('\n').unwrap_or(text);
