@@ -41,13 +41,15 @@ impl<'a, E, L: Layout> Laid<'a, E, L> {
 }
 
 impl<'a, E: Copy, L: Layout> Laid<'a, E, L> {
-    // Gives the sequence at a place another length.
-    fn resize(&mut self, place: Place, length: Length)
+    // Gives the sequence at a place another length: where it begins then.
+    fn resize(&mut self, place: Place, length: Length) -> usize
+        ensures begins { result ≡ L.start self.new.lengths.table place.number }
         ensures lengths { self.new.lengths.table ≡ slice_set self.old.lengths.table (place.number - 1) length.count }
         ensures moved { Moved L.start self.old.lengths.table self.new.lengths.table self.old.lent.cells.now self.new.lent.cells.now }
     {
-        L::resize(&mut self.lent, &self.lengths, place, length);
+        let start = L::resize(&mut self.lent, &self.lengths, place, length);
         self.lengths.set(place, length);
+        start
     }
 }
 
@@ -77,8 +79,7 @@ impl<'a, E: Copy, L: Layout> WritableShelf for Laid<'a, E, L> {
     fn append(&mut self, place: usize, element: E) -> Result<(), Fault> {
         let place = Place::try_from(place)?;
         let longer = self.lengths.longer(place)?;
-        self.resize(place, longer);
-        let end = L::start(&self.lengths, place) + longer.count;
+        let end = self.resize(place, longer) + longer.count;
         self.lent.cells[end - 1] = element;
         Ok(())
     }

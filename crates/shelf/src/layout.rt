@@ -14,8 +14,15 @@ pub(crate) trait Layout {
         ensures { result ≡ start lengths.now.table place.number };
 
     // Moves the elements to where they lie once the sequence at a place has another length; its own past that are lost.
-    fn resize<E: Copy>(lent: &mut Cells<'_, E>, lengths: &Lengths, place: Place, length: Length)
-        ensures { Moved start lengths.now.table (slice_set lengths.now.table (place.number - 1) length.count) lent.old.cells.now lent.new.cells.now };
+    // Answers where that sequence begins then.
+    fn resize<E: Copy>(
+        lent: &mut Cells<'_, E>,
+        lengths: &Lengths,
+        place: Place,
+        length: Length,
+    ) -> usize
+        ensures begins { result ≡ start (slice_set lengths.now.table (place.number - 1) length.count) place.number }
+        ensures moved { Moved start lengths.now.table (slice_set lengths.now.table (place.number - 1) length.count) lent.old.cells.now lent.new.cells.now };
 
     ghost lawful: { Lawful start };
 }

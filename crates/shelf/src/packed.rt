@@ -24,11 +24,17 @@ impl Layout for EndToEnd {
         lengths.before(place)
     }
 
-    fn resize<E: Copy>(lent: &mut Cells<'_, E>, lengths: &Lengths, place: Place, length: Length) {
+    fn resize<E: Copy>(
+        lent: &mut Cells<'_, E>,
+        lengths: &Lengths,
+        place: Place,
+        length: Length,
+    ) -> usize {
         let start = lengths.before(place);
         let end = start + lengths.of(place).count;
         let total = lengths.total();
         lent.cells.copy_within(end..total, start + length.count);
+        start
     }
 }
 

@@ -25,7 +25,9 @@ impl Layout for InRows {
         LONGEST * (place.number - 1)
     }
 
-    fn resize<E: Copy>(_: &mut Cells<'_, E>, _: &Lengths, _: Place, _: Length) {}
+    fn resize<E: Copy>(_: &mut Cells<'_, E>, lengths: &Lengths, place: Place, _: Length) -> usize {
+        InRows::start(lengths, place)
+    }
 }
 
 // Each shelf's making says what that shelf holds.

@@ -32,6 +32,6 @@ returns g c =
     let p = c.in_ok-place.place in
     let n = c.in_ok-longer.longer.count in
     let x = c.args.element in
-    let more = held_appended start law self p n after c.resize.ensures.lengths c.resize.ensures.moved c.start.result x c.start.ensures (longer_told ls p.number n c.in_ok-longer.ensures) in
+    let more = held_appended start law self p n after c.resize.ensures.lengths c.resize.ensures.moved c.resize.result x c.resize.ensures.begins (longer_told ls p.number n c.in_ok-longer.ensures) in
     appended_yes h ls p.number (held_size start law self p.number) n x _ (is_place_of p.number p.from_one p.to_last) c.in_ok-longer.ensures more ∙
     ap (λ (q : ℕ). appended q x h) (told _ _ _ c.in_ok-place.ensures).1

@@ -1,4 +1,5 @@
-use Rattle.std.proofs.Common.{◌+◌, arith}
+use Rattle.std.proofs.Common.{◌+◌, ◌-◌, ◌∙◌, sum, ap, sym, arith}
+use Rattle.std.proofs.lemmas.List.{take-set}
 use Rattle.shelf.proofs.Packing.{pack_ends, pack_room, pack_moved}
 use Rattle.shelf.proofs.packed.EndToEndLayout.resize.Goals as goal
 
@@ -15,8 +16,13 @@ copy_within-requires-clause-dest_in_bounds g c =
     let new = c.args.length in
     omega (arith, pack_room ls.table ls.whole p.number p.from_one p.to_last new.count new.short ls.short, c.args.lent.now.enough, c.before-start.ensures.sum, c.of.ensures, c.total-total.ensures.sum)
 
-pub returns : goal.returns
-returns g c =
+pub returns-clause-begins : goal.returns-clause-begins
+returns-clause-begins g c =
+    let ls = c.args.lengths.now in
+    c.before-start.ensures.sum ∙ sym (ap sum (take-set ls.table (c.args.place.number - 1) c.args.length.count))
+
+pub returns-clause-moved : goal.returns-clause-moved
+returns-clause-moved g c =
     let ls = c.args.lengths.now in
     let p = c.args.place in
     let new = c.args.length.count in
