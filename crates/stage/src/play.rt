@@ -44,6 +44,8 @@ fn play_by<R: RightsRule + Drop, S: WritableShelf>(
 }
 
 // Every answer is written into the script. A rule is a type, so each name calls another function.
+// A scene lies in this function's frame, so no caller takes it into its own.
+#[inline(never)]
 pub(crate) fn play_script<S: WritableShelf>(
     rule: RuleName,
     shelf: &mut S,
