@@ -21,6 +21,7 @@ use storing::stores::{append, passappend, store};
 use writing::writes::{addata, putdata};
 
 // Each kind of kall has arguments of its own.
+#[inline(always)]
 fn perform<R: RightsRule, S: WritableShelf>(
     scene: &mut Scene<R>,
     slip: &Slip,
