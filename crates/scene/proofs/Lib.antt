@@ -12,3 +12,4 @@ pub mod Homes
 pub mod Creating
 pub mod Processes
 pub mod Fresh
+pub mod Alike
