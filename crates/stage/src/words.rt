@@ -3,6 +3,7 @@ use std::alloc::{AllocError, Global};
 
 // Words are parted by spaces or tabs. Each tab is made a space once, in the whole text, so that
 // a line is searched for one character: a search for two at a time is slow in a long word.
+// Each byte is assigned, which the compiler does for many at a time.
 pub(crate) fn space_tabs(text: &mut [u8]) {
     for byte in text.iter_mut() {
         *byte = if *byte == b'\t' { b' ' } else { *byte };
